@@ -1,0 +1,15 @@
+// Ground total-order planning problems and plans as texts: loaded, and written back.
+mod entries;
+mod faults;
+mod lines;
+mod rule;
+
+pub use entries::Method;
+pub use entries::Operator;
+pub use entries::Row;
+pub use faults::PlanFault;
+pub use faults::PlanFaultDebug;
+pub use faults::ProblemFault;
+pub use faults::ProblemFaultDebug;
+pub use faults::Refusal;
+pub use faults::RefusalDebug;
