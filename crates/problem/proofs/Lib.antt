@@ -1,3 +1,5 @@
 pub mod Laws
 pub mod LineLaws
 pub mod Entering
+pub mod Legality
+pub mod FileLaws

@@ -1,3 +1,6 @@
 pub mod Formats
 pub mod Entered
 pub mod Reads
+pub mod Data
+pub mod Legal
+pub mod Files
