@@ -3,3 +3,4 @@ pub mod LineLaws
 pub mod Entering
 pub mod Legality
 pub mod FileLaws
+pub mod Turns

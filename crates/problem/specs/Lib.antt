@@ -4,3 +4,4 @@ pub mod Reads
 pub mod Data
 pub mod Legal
 pub mod Files
+pub mod Heads

@@ -1,9 +1,12 @@
 // Ground total-order planning problems and plans as texts: loaded, and written back.
 mod entries;
+mod definition;
 mod faults;
 mod lines;
+mod loading;
 mod rule;
 
+pub use definition::Problem;
 pub use entries::Method;
 pub use entries::Operator;
 pub use entries::Row;
