@@ -4,3 +4,4 @@ pub mod Entering
 pub mod Legality
 pub mod FileLaws
 pub mod Turns
+pub mod FileReading

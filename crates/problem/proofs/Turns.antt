@@ -1,7 +1,7 @@
 -- Blocks one after another, as a loop reads them. Assumes nothing.
 use mathlib.Core.Path.{_≡_, refl, sym, ap, _∙_}
-use mathlib.Core.List.{List, [], _∷_, _++_, map, append-assoc, append-nil}
-use Prim.Native.Nat.{ℕ, suc, _+_, _-_, _≤_, _<_}
+use mathlib.Core.List.{List, [], _∷_, _++_, map, append-assoc}
+use Prim.Native.Nat.{ℕ, suc, _+_, _-_, _<_}
 use native.Mathlib.Omega.{arith}
 use Rattle.std.specs.declared.option.Option.{Option}
 use Rattle.std.specs.declared.option.Option.the-variants.{Some, None}
@@ -33,15 +33,6 @@ module _ {X : Type 0} where
       let k : n - i ≡ suc (n - (i + 1)) = omega arith in
       inv ∙ ap (λ (j : ℕ). ahead xs (readAll r j l p bs)) k
       ∙ ap (λ (o : Got Flaw X). ahead xs (bind o (λ y m q cs. bind (readAll r (n - (i + 1)) m q cs) (λ ys. got (y ∷ ys))))) e
-
-    pub ahead-end : (xs : List X) (n i l p : ℕ) (bs : List ℕ) → n ≤ i → ahead xs (readAll r (n - i) l p bs) ≡ got xs l p bs
-    ahead-end xs n i l p bs h =
-      let k : n - i ≡ 0 = omega arith in
-      ap (λ (j : ℕ). ahead xs (readAll r j l p bs)) k ∙ ap (λ (zs : List X). got zs l p bs) (append-nil xs)
-
-    pub ahead-start : (g : Got Flaw (List X)) → g ≡ ahead [] g
-    ahead-start (got ys a b c) = refl
-    ahead-start (bad f) = refl
 
 pub map-push : {X Y : Type 0} (f : X → Y) (xs : List X) (x : X) → map f (xs ++ (x ∷ [])) ≡ map f xs ++ (f x ∷ [])
 map-push f [] x = refl

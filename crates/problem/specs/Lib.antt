@@ -5,3 +5,4 @@ pub mod Data
 pub mod Legal
 pub mod Files
 pub mod Heads
+pub mod Loaded

@@ -6,12 +6,17 @@ ghost use Rattle.problem.specs.Data.{operatorOf, methodOf, operatorsOf, method
 ghost use Rattle.problem.specs.Formats.{times};
 ghost use Rattle.problem.specs.Files.{factRule, taskRule, head as headFormat, operator as operatorFormat, method as methodFormat};
 ghost use Rattle.problem.specs.Reads.{Reads, flawOf};
-ghost use Rattle.problem.specs.Heads.{headOf};
+ghost use Rattle.problem.specs.Heads.{headOf, Finishes};
+ghost use Rattle.problem.specs.Loaded.{Read-whole};
+use base::Question;
+use crate::definition::Problem;
 use crate::entries::Method;
 use crate::entries::Operator;
 use crate::faults::ProblemFault;
 use crate::faults::ProblemFaultFromAllocError;
+use crate::faults::ProblemFaultFromRefusal;
 use crate::faults::ProblemFaultFromRefused;
+use crate::faults::Refusal;
 use crate::lines::list;
 use crate::lines::number;
 use crate::rule::Rule;
@@ -106,4 +111,26 @@ fn read_methods(reader: &mut Reader<'_>, heap: Global, n: u16, facts: u16, ops: 
         all.push(next)?;
     }
     Ok(all)
+}
+
+// Refuses bytes after the last line.
+fn finish(reader: &Reader<'_>) -> Result<(), Refusal>
+    ensures { λ r. ⌜ Finishes (now (reader .entry)) r ⌝ }
+{
+    if !reader.is_done() {
+        return Err(Refusal { question: Question::FileEnds, place: reader.place() });
+    }
+    Ok(())
+}
+
+fn read_problem(heap: Global, text: &[u8]) -> Result<Problem, ProblemFault>
+    ensures { λ r. ⌜ Read-whole (now (text .entry)) r ⌝ }
+{
+    let mut reader = Reader::new(text);
+    let head = read_head(&mut reader, heap)?;
+    let operators = read_operators(&mut reader, heap, head.ops, head.facts)?;
+    let methods = read_methods(&mut reader, heap, head.methods, head.facts, head.ops, head.tasks)?;
+    finish(&reader)?;
+    let Head { number, facts, ops: _, tasks, methods: _, start, first } = head;
+    Ok(Problem { number, facts, tasks, start, first, operators, methods })
 }

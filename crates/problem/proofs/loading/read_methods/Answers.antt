@@ -8,7 +8,7 @@ use Rattle.problem.specs.Data.{MethodData, methodOf, methodsOf}
 use Rattle.problem.specs.Formats.{readAll}
 use Rattle.problem.specs.Files.{method}
 use Rattle.problem.specs.Reads.{flawOf}
-use Rattle.problem.proofs.Turns.{ahead, ahead-start, ahead-more, ahead-bad, ahead-end, map-push}
+use Rattle.problem.proofs.Turns.{ahead, ahead-more, ahead-bad, map-push}
 use Rattle.problem.proofs.loading.read_methods.Needs as need
 
 pub returns-in-Break-next : need.returns-in-Break-next
