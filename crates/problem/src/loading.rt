@@ -1,13 +1,14 @@
 // Loads a problem file.
 ghost use mathlib.Core.Path.{_≡_};
 ghost use Prim.Native.Nat.{_+_};
+ghost use Rattle.std.specs.Vec.{made};
 ghost use Rattle.text.specs.Cursors.{left};
 ghost use Rattle.problem.specs.Data.{operatorOf, methodOf, operatorsOf, methodsOf};
 ghost use Rattle.problem.specs.Formats.{times};
 ghost use Rattle.problem.specs.Files.{factRule, taskRule, head as headFormat, operator as operatorFormat, method as methodFormat};
 ghost use Rattle.problem.specs.Reads.{Reads, flawOf};
 ghost use Rattle.problem.specs.Heads.{headOf, Finishes};
-ghost use Rattle.problem.specs.Loaded.{Read-whole};
+ghost use Rattle.problem.specs.Loaded.{problemOf, newData, Read-whole, Filled, Loads-exactly, Back};
 use base::Question;
 use crate::definition::Problem;
 use crate::entries::Method;
@@ -20,6 +21,7 @@ use crate::faults::Refusal;
 use crate::lines::list;
 use crate::lines::number;
 use crate::rule::Rule;
+use std::alloc::AllocError;
 use std::alloc::Global;
 use text::Reader;
 
@@ -133,4 +135,30 @@ fn read_problem(heap: Global, text: &[u8]) -> Result<Problem, ProblemFault>
     finish(&reader)?;
     let Head { number, facts, ops: _, tasks, methods: _, start, first } = head;
     Ok(Problem { number, facts, tasks, start, first, operators, methods })
+}
+
+impl Problem {
+    // The problem before its first load: number 0, one fact, one operator with shelf 0 and empty lists.
+    pub fn new(heap: Global) -> Result<Problem, AllocError>
+        ensures { λ r. ⌜ made r (λ p. problemOf p ≡ newData) ⌝ }
+    {
+        let mut operators = Vec::new(heap);
+        let none = Operator { shelf: 0, yes: Vec::new(heap), no: Vec::new(heap), add: Vec::new(heap), del: Vec::new(heap) };
+        operators.push(none)?;
+        let start = Vec::new(heap);
+        let first = Vec::new(heap);
+        let methods = Vec::new(heap);
+        Ok(Problem { number: 0, facts: 1, tasks: 0, start, first, operators, methods })
+    }
+
+    // Fills the problem with what the text means, or says what is wrong and leaves the problem as it was.
+    pub fn load(&mut self, heap: Global, text: &[u8]) -> Result<(), ProblemFault>
+        ensures fills { λ r. ⌜ Filled (now (text .entry)) (now (self .entry)) r (now (self .exit)) ⌝ }
+        ensures exactly { λ _. ⌜ Loads-exactly (now (text .entry)) ⌝ }
+        ensures back { λ r. ⌜ Back (now (text .entry)) r (now (self .exit)) ⌝ }
+    {
+        let loaded = read_problem(heap, text)?;
+        *self = loaded;
+        Ok(())
+    }
 }
