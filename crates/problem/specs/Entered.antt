@@ -14,11 +14,11 @@ use Rattle.std.specs.declared.result.Result.the-variants.{Ok, Err}
 use Rattle.std.specs.declared.vec.Vec.{Vec}
 use Rattle.base.specs.declared.question.Question.the-variants.{NumberInRange, ListWithinLength, ListAscends}
 use Rattle.text.specs.declared.place.Numbered.{Numbered}
-use Rattle.text.specs.Lines.{Got, bad}
+use Rattle.text.specs.Lines.{Got, bad, placeOf}
 use Rattle.problem.specs.declared.faults.Refusal.{Refusal}
 use Rattle.problem.specs.declared.rule.Entries.{Entries}
 use Rattle.problem.specs.declared.rule.Rule.{Rule}
-use Rattle.problem.specs.Formats.{Flaw, ofEntry, inside, above, unless, refused, ranged}
+use Rattle.problem.specs.Formats.{Flaw, ofEntry, inside, above, unless}
 
 -- the byte that was noted first; the byte at hand where the number there fails
 abbrev pub noted : Option ℕ → Bool → ℕ → Option ℕ
@@ -58,5 +58,5 @@ Judges s l (Err f) = (g : Got Flaw (List ℕ)) → verdict s l g ≡ bad (ofEntr
 
 -- a number is in its range, or is refused where it stands
 abbrev pub Ranged : Numbered → ℕ → ℕ → ℕ → Result ℕ Refusal → Type 0
-Ranged x l low end (Ok n) = (n ≡ x .value) × (ranged low end (x .value) ≡ None)
-Ranged x l low end (Err f) = (g : Got Flaw ℕ) → refused (ranged low end (x .value)) l (x .byte) g ≡ bad (ofEntry f)
+Ranged x l low end (Ok n) = (n ≡ x .value) × (inside low end (x .value) ≡ true)
+Ranged x l low end (Err f) = (inside low end (x .value) ≡ false) × (f ≡ record { question = NumberInRange; place = placeOf l (x .byte) })

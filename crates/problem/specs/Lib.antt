@@ -6,3 +6,4 @@ pub mod Legal
 pub mod Files
 pub mod Heads
 pub mod Loaded
+pub mod Plans

@@ -4,6 +4,7 @@ mod definition;
 mod faults;
 mod lines;
 mod loading;
+mod plans;
 mod rule;
 
 pub use definition::Problem;
