@@ -3,14 +3,14 @@
 # `rt check repeat` builds, against bench/plain. Usage: bench/run.sh [COUNT [RUNS]]
 set -euo pipefail
 cd "$(dirname "$0")/.."
-count=${1:-2000} runs=${2:-7} text=bench/longest
+count=${1:-2000} runs=${2:-15} text=bench/longest
 ours=target/bin/repeat plain=bench/plain/target/release/plain
 
 cargo build --quiet --release --offline --manifest-path bench/plain/Cargo.toml
 [ -x "$ours" ] || { echo "run.sh: no $ours; build it by: rt check repeat" >&2; exit 1; }
 
-# Runs a program once; where that took fewer microseconds than $best says, that is the best.
-once() { # PROGRAM MODE BEST
+# Runs a program once. $best is then its fewest microseconds, given the fewest before (0: none).
+once() { # PROGRAM MODE FEWEST
     local from=${EPOCHREALTIME//[.,]/} said took
     said=$("$1" "$2" "$count" < "$text") || { echo "run.sh: $1 $2 failed" >&2; exit 1; }
     took=$((${EPOCHREALTIME//[.,]/} - from))

@@ -290,3 +290,27 @@ impl Reader<'_> {
         }
     }
 }
+
+#[cfg(test)]
+mod tests {
+    use super::*;
+
+    const TEXT: &[u8; LONGEST] = include_bytes!("../../longest");
+
+    #[test]
+    fn writes_what_was_loaded() {
+        let problem = Problem::load(TEXT).unwrap();
+        let mut out = [b'x'; LONGEST + 1];
+        assert_eq!(problem.write(&mut out), Some(LONGEST));
+        assert_eq!(out[..LONGEST], *TEXT);
+        assert_eq!(out[LONGEST], b'x');
+    }
+
+    #[test]
+    fn leaves_too_small_a_slice_alone() {
+        let problem = Problem::load(TEXT).unwrap();
+        let mut out = [b'x'; LONGEST - 1];
+        assert_eq!(problem.write(&mut out), None);
+        assert_eq!(out, [b'x'; LONGEST - 1]);
+    }
+}

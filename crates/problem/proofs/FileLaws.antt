@@ -53,7 +53,7 @@ method-lawful facts ops tasks = via-lawful methodSplit methodJoin (methodLines f
 blocks-lawful : (h : HeadData) → Lawful (blocks h)
 blocks-lawful h = both-lawful _ _ (times-lawful (operator (h .facts)) (operator-lawful (h .facts)) (h .ops)) (λ _. times-lawful (method (h .facts) (h .ops) (h .tasks)) (method-lawful (h .facts) (h .ops) (h .tasks)) (h .methods))
 
-good-length : {X : Type 0} (P : X → Type 0) (n : ℕ) (xs : List X) → GoodAll P n xs → length xs ≡ n
+pub good-length : {X : Type 0} (P : X → Type 0) (n : ℕ) (xs : List X) → GoodAll P n xs → length xs ≡ n
 good-length P zero [] g = refl
 good-length P zero (x ∷ xs) g = absurd g
 good-length P (suc n) [] g = absurd g

@@ -7,16 +7,14 @@ use Rattle.std.specs.declared.result.Result.the-variants.{Ok, Err}
 use Rattle.text.specs.Lines.{Got, got, bad}
 use Rattle.problem.specs.Formats.{Flaw, bind, Format, Lawful, via, both, GoodAll, writeAll, readAll, times, ended, whole}
 
-Came : {X Y : Type 0} → Got Flaw X → (X → ℕ → ℕ → List ℕ → Got Flaw Y) → Got Flaw Y → Type 0
+abbrev pub Came : {X Y : Type 0} → Got Flaw X → (X → ℕ → ℕ → List ℕ → Got Flaw Y) → Got Flaw Y → Type 0
 Came {X = X} g f o = (x : X) × (l : ℕ) × (p : ℕ) × (r : List ℕ) × (g ≡ got x l p r) × (f x l p r ≡ o)
 
-came : {X Y : Type 0} (g : Got Flaw X) (f : X → ℕ → ℕ → List ℕ → Got Flaw Y) (y : Y) (m q : ℕ) (rest : List ℕ) → bind g f ≡ got y m q rest → Came g f (got y m q rest)
-unfolding Came
+pub came : {X Y : Type 0} (g : Got Flaw X) (f : X → ℕ → ℕ → List ℕ → Got Flaw Y) (y : Y) (m q : ℕ) (rest : List ℕ) → bind g f ≡ got y m q rest → Came g f (got y m q rest)
 came (got x l p r) f y m q rest e = (x, l, p, r, refl, e)
 came (bad b) f y m q rest e = let z : _≡_ {A = ℕ} 0 1 = cc in absurd (omega arith)
 
 pub via-lawful : {X Y : Type 0} (to : X → Y) (of : Y → X) (F : Format Y) → Lawful F → ((x : X) → of (to x) ≡ x) → ((y : Y) → F .Good y → to (of y) ≡ y) → Lawful (via to of F)
-unfolding Came
 via-lawful {X = X} {Y = Y} to of F law there again = record {
   reads-back = λ x g l p rest.
     let h = law .reads-back (to x) g l p rest in
@@ -32,7 +30,6 @@ via-lawful {X = X} {Y = Y} to of F law there again = record {
   }
 
 pub both-lawful : {X Y : Type 0} (F : Format X) (G : X → Format Y) → Lawful F → ((x : X) → Lawful (G x)) → Lawful (both F G)
-unfolding Came
 both-lawful {X = X} {Y = Y} F G law laws =
   let next : X → ℕ → ℕ → List ℕ → Got Flaw (X × Y) = λ x m q cs. bind (G x .read m q cs) (λ y. got (x, y)) in
   record {
@@ -72,7 +69,6 @@ module _ {X : Type 0} (F : Format X) (law : Lawful F) where
       ∙ ap (λ (o : Got Flaw (List X)). bind o (λ ys. got (x ∷ ys))) (k .2))
 
   writes-all : (n l p : ℕ) (bs : List ℕ) (xs : List X) (m q : ℕ) (rest : List ℕ) → readAll (F .read) n l p bs ≡ got xs m q rest → GoodAll (F .Good) n xs × (bs ≡ writeAll (F .write) xs ++ rest)
-  unfolding Came
   writes-all zero l p bs xs m q rest e =
     let xs-is : [] ≡ xs = cc in
     let r-is : bs ≡ rest = cc in

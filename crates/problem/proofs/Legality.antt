@@ -16,13 +16,13 @@ use Rattle.problem.specs.Formats.{Rising, Allowed, GoodAll, inside, ranged}
 use Rattle.problem.specs.Files.{factRule, taskRule, operator, method, fileSplit, head, problemFile}
 use Rattle.problem.specs.Legal.{every, between, rises, factList, taskList, legalOperator, legalMethod, legal}
 
-in-range : (low end n : ℕ) → ranged low end n ≡ None → (low ≤ n) × (n < end)
+pub in-range : (low end n : ℕ) → ranged low end n ≡ None → (low ≤ n) × (n < end)
 in-range low end n e = ⊎-elim
   (λ t. let p = and-parts (leb low n) (ltb n end) t in (leb-true low n (p .0), ltb-true n end (p .1)))
   (λ f. let h : Some NumberInRange ≡ None = sym (cond-false (inside low end n) _ _ f) ∙ e in let z : _≡_ {A = ℕ} 0 1 = cc in absurd (omega arith))
   (cases-bool (inside low end n))
 
-ranged-none : (low end n : ℕ) → low ≤ n → n < end → ranged low end n ≡ None
+pub ranged-none : (low end n : ℕ) → low ≤ n → n < end → ranged low end n ≡ None
 ranged-none low end n a b = cond-true (inside low end n) _ _ (and-from (leb low n) (ltb n end) (le-leb low n a) (lt-ltb n end b))
 
 each-below : (end : ℕ) (ns : List ℕ) → every (λ n. ltb n end) ns ≡ true → Each (λ n. (0 ≤ n) × (n < end)) ns
@@ -67,11 +67,11 @@ task-allowed most tasks ns s e =
 allowed-task : (most tasks : ℕ) (ns : List ℕ) → Allowed (taskRule most tasks) ns → taskList most tasks ns ≡ true
 allowed-task most tasks ns a = and-from (leb (length ns) most) _ (le-leb (length ns) most (a .most)) (every-below tasks ns (a .range))
 
-all-good : {X : Type 0} (p : X → Bool) (P : X → Type 0) → ((x : X) → p x ≡ true → P x) → (xs : List X) → every p xs ≡ true → GoodAll P (length xs) xs
+pub all-good : {X : Type 0} (p : X → Bool) (P : X → Type 0) → ((x : X) → p x ≡ true → P x) → (xs : List X) → every p xs ≡ true → GoodAll P (length xs) xs
 all-good p P f [] e = tt
 all-good p P f (x ∷ xs) e = let q = and-parts (p x) (every p xs) e in (f x (q .0), all-good p P f xs (q .1))
 
-good-all : {X : Type 0} (p : X → Bool) (P : X → Type 0) → ((x : X) → P x → p x ≡ true) → (xs : List X) → GoodAll P (length xs) xs → every p xs ≡ true
+pub good-all : {X : Type 0} (p : X → Bool) (P : X → Type 0) → ((x : X) → P x → p x ≡ true) → (xs : List X) → GoodAll P (length xs) xs → every p xs ≡ true
 good-all p P f [] g = refl
 good-all p P f (x ∷ xs) g = and-from (p x) (every p xs) (f x (g .0)) (good-all p P f xs (g .1))
 
@@ -111,6 +111,16 @@ module _ (facts : ℕ) where
       and-from (leb ops (m .task) && ltb (m .task) (ops + tasks)) _ (and-from (leb ops (m .task)) _ (le-leb _ _ (r .0)) (lt-ltb _ _ (r .1)))
       (and-from (factList 8 facts (m .yes)) _ (allowed-fact 8 facts (m .yes) (g .1 .0))
       (and-from (factList 8 facts (m .no)) _ (allowed-fact 8 facts (m .no) (g .1 .1 .0)) (allowed-task 8 (ops + tasks) (m .sub) (g .1 .1 .1))))
+
+-- the limits on what a plan names
+pub legal-limits : (p : ProblemData) → legal p ≡ true → (p .number ≤ 65535) × (length (p .operators) ≤ 64) × (length (p .methods) ≤ 128)
+legal-limits p e =
+  let a = and-parts (leb (p .number) 65535) _ e in
+  let b = and-parts (between 1 256 (p .facts)) _ (a .1) in
+  let c = and-parts (between 1 64 (length (p .operators))) _ (b .1) in
+  let d = and-parts (leb (p .tasks) 64) _ (c .1) in
+  let f = and-parts (leb (length (p .methods)) 128) _ (d .1) in
+  (leb-true _ _ (a .0), leb-true _ _ (and-parts (leb 1 (length (p .operators))) _ (c .0) .1), leb-true _ _ (f .0))
 
 pub legal-good : (p : ProblemData) → legal p ≡ true → problemFile .Good p
 unfolding problemFile

@@ -5,3 +5,4 @@ pub mod Legality
 pub mod FileLaws
 pub mod Turns
 pub mod FileReading
+pub mod PlanLaws
