@@ -6,3 +6,4 @@ pub mod FileLaws
 pub mod Turns
 pub mod FileReading
 pub mod PlanLaws
+pub mod PlanReading

@@ -7,6 +7,9 @@ use lib.Chars.{codes}
 use lib.Dec.{eqb, ltb, leb}
 use lib.ListN.{length, drop}
 use Rattle.std.specs.Options.{isSome}
+use Rattle.std.specs.Of.Vec.{vec-items}
+use Rattle.std.specs.declared.alloc.Global.{Global}
+use Rattle.std.specs.declared.vec.Vec.{Vec}
 use Rattle.std.specs.declared.option.Option.{Option}
 use Rattle.std.specs.declared.option.Option.the-variants.{Some, None}
 use Rattle.std.specs.declared.result.Result.{Result}
@@ -89,8 +92,8 @@ abbrev pub legalPlan : ProblemData → List Row → Bool
 legalPlan p rows = leb (length rows) 2000 && every (known p) rows
 
 -- the rows were made of the text, or were not
-abbrev pub Rows-read : ProblemData → ℕ → List ℕ → Result (List Row) PlanFault → Type 0
-Rows-read p room text (Ok rows) = planLoads p room text ≡ Ok rows
+abbrev pub Rows-read : ProblemData → ℕ → List ℕ → Result (Vec Row Global) PlanFault → Type 0
+Rows-read p room text (Ok v) = planLoads p room text ≡ Ok (vec-items v)
 Rows-read p room text (Err e) = Tells (planLoads p room text) (planFlawOf e)
 
 -- loading puts the rows that the text means at the start of the slice, answers how many they are and leaves the entries beyond;

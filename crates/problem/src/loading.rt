@@ -116,7 +116,7 @@ fn read_methods(reader: &mut Reader<'_>, heap: Global, n: u16, facts: u16, ops: 
 }
 
 // Refuses bytes after the last line.
-fn finish(reader: &Reader<'_>) -> Result<(), Refusal>
+pub(crate) fn finish(reader: &Reader<'_>) -> Result<(), Refusal>
     ensures { λ r. ⌜ Finishes (now (reader .entry)) r ⌝ }
 {
     if !reader.is_done() {

@@ -3,10 +3,16 @@ ghost use mathlib.Core.Path.{_≡_};
 ghost use Rattle.text.specs.Cursors.{left};
 ghost use Rattle.std.specs.Of.Vec.{vec-items};
 ghost use Rattle.problem.specs.Formats.{aNumber, ranged as rangedOf, times};
-ghost use Rattle.problem.specs.Plans.{sameShop, fitting, row as rowFormat};
+ghost use Rattle.problem.specs.Plans.{sameShop, fitting, row as rowFormat, Rows-read, Rows-loaded, Plan-exactly};
 ghost use Rattle.problem.specs.Reads.{Reads, planFlawOf, same};
 ghost use lib.Chars.{codes};
+ghost use lib.ListN.{length, drop};
+ghost use mathlib.Core.List.{_++_};
+ghost use Prim.Native.Nat.{_≤_};
+ghost use Rattle.problem.specs.Loaded.{problemOf};
 use base::Question;
+use base::store;
+use crate::definition::Problem;
 use crate::entries::Row;
 use crate::faults::PlanFault;
 use crate::faults::PlanFaultFromAllocError;
@@ -15,6 +21,7 @@ use crate::faults::PlanFaultFromRefused;
 use crate::faults::PlanFaultFromTextFault;
 use crate::faults::Refusal;
 use crate::lines::ranged;
+use crate::loading::finish;
 use std::alloc::Global;
 use text::Place;
 use text::Reader;
@@ -80,4 +87,38 @@ fn read_rows(reader: &mut Reader<'_>, heap: Global, n: u16, methods: usize, ops:
         all.push(next)?;
     }
     Ok(all)
+}
+
+fn read_plan(problem: &Problem, heap: Global, text: &[u8], room: usize) -> Result<Vec<Row>, PlanFault>
+    ensures { λ r. ⌜ Rows-read (problemOf (now (problem .entry))) room (now (text .entry)) r ⌝ }
+{
+    let mut reader = Reader::new(text);
+    read_shop(&mut reader, problem.number)?;
+    let count = read_count(&mut reader, room)?;
+    let rows = read_rows(&mut reader, heap, count, problem.methods.len(), problem.operators.len())?;
+    finish(&reader)?;
+    Ok(rows)
+}
+
+// Puts the rows at the start of the slice, which has room for them.
+fn store_rows(rows: &mut [Row], from: &[Row])
+    requires { ⌜ length (now from) ≤ length (now rows) ⌝ }
+    ensures { λ _. ⌜ now (rows .exit) ≡ now (from .entry) ++ drop (length (now (from .entry))) (now (rows .entry)) ⌝ }
+{
+    for (at, row) in from.iter().enumerate() {
+        let _ = store(rows, at, *row);
+    }
+}
+
+impl Problem {
+    // Puts the rows of a plan text at the start of the slice and answers how many they are, or says what is wrong and
+    // leaves the slice as it was.
+    pub fn load_plan(&self, heap: Global, text: &[u8], rows: &mut [Row]) -> Result<usize, PlanFault>
+        ensures fills { λ r. ⌜ Rows-loaded (problemOf (now (self .entry))) (now (text .entry)) (now (rows .entry)) r (now (rows .exit)) ⌝ }
+        ensures exactly { λ _. ⌜ Plan-exactly (problemOf (now (self .entry))) (length (now (rows .entry))) (now (text .entry)) ⌝ }
+    {
+        let loaded = read_plan(self, heap, text, rows.len())?;
+        store_rows(rows, loaded.as_slice());
+        Ok(loaded.len())
+    }
 }
