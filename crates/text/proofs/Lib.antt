@@ -1,4 +1,5 @@
-pub mod Feeds
+pub mod FedLaws
+pub mod Feeding
 pub mod Turns
 pub mod Opening
 pub mod Trips

@@ -5,3 +5,5 @@ pub mod Steps
 pub mod Lines
 pub mod Cursors
 pub mod Viability
+pub mod Sinks
+pub mod Rendered

@@ -7,7 +7,7 @@ use borrow.Author.Needs.{needs}
 use Rattle.text.specs.declared.place.Numbered.{Numbered}
 use Rattle.text.specs.Fed.{Fed}
 use Rattle.text.specs.Values.{fault, numbersOf}
-use Rattle.text.proofs.Feeds.{fed-start, fed-push, fed-is, fed-to}
+use Rattle.text.proofs.FedLaws.{fed-start, fed-push, fed-is, fed-to}
 use Rattle.text.proofs.Turns.{on-last, on-empty, on-stop, on-more, on-put, at-end}
 use Rattle.text.proofs.values.value.Needs as need
 

@@ -2,7 +2,7 @@ use mathlib.Core.Path.{_≡_, refl, sym, ap, _∙_}
 use mathlib.Core.Bool.{true}
 use Rattle.std.proofs.shelf.Results.{err-from-errBy}
 use Rattle.text.specs.Lines.{scanned}
-use Rattle.text.proofs.Feeds.{fed-start, fed-is}
+use Rattle.text.proofs.FedLaws.{fed-start, fed-is}
 use Rattle.text.proofs.Viable.{stops-value}
 use Rattle.text.proofs.cursor.Reader.list.Needs as need
 
