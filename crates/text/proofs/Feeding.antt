@@ -14,7 +14,7 @@ use Rattle.std.proofs.shelf.Lists.{take-more, length-take-le, take-append-drop,
 use Rattle.std.proofs.shelf.Ways.{tells}
 use Rattle.text.specs.declared.slices.Lent.{Lent}
 use Rattle.text.specs.declared.slices.Room.{Room}
-use Rattle.text.specs.Lists.{commas, list, lineOf}
+use Rattle.text.specs.Lists.{commas, list, lineOf, each}
 use Rattle.text.specs.Fed.{Fed}
 use Rattle.text.specs.Sinks.{Feeds, counts, lays}
 use Rattle.text.proofs.FedLaws.{fed-append}
@@ -41,6 +41,19 @@ pub list-grows : (ns : List ℕ) → Grows ns
 list-grows ns i h some =
     let l : length (take i ns) ≡ i = length-take-le i ns (omega arith) in
     ap list (take-more ns i 0 h) ∙ list-push (take i ns) (getD ns i 0) (omega (arith, l))
+
+each-append : {X : Type 0} (w : X → List ℕ) (xs ys : List X) → each w (xs ++ ys) ≡ each w xs ++ each w ys
+each-append w [] ys = refl
+each-append w (x ∷ xs) ys = ap (λ (l : List ℕ). w x ++ l) (each-append w xs ys) ∙ sym (append-assoc (w x) (each w xs) (each w ys))
+
+-- each value adds its text
+abbrev pub Adds : {X : Type 0} → (X → List ℕ) → List X → Type 0
+Adds {X = X} w xs = (i : ℕ) (x : X) → i < length xs → x ≡ getD xs i x → each w (take (i + 1) xs) ≡ each w (take i xs) ++ w x
+
+pub each-adds : {X : Type 0} (w : X → List ℕ) (xs : List X) → Adds w xs
+each-adds {X = X} w xs i x h is =
+    ap (each w) (take-more xs i x h ∙ ap (λ (y : X). take i xs ++ (y ∷ [])) (sym is)) ∙ each-append w (take i xs) (x ∷ [])
+    ∙ ap (λ (l : List ℕ). each w (take i xs) ++ l) (append-nil (w x))
 
 module _ {S : Type 0} (takes : S → ℕ → S → Type 0) where
   -- what is fed is fed before and after other bytes too

@@ -16,3 +16,8 @@ list (n ∷ ns) = decimal n ++ commas ns
 -- a key, '=', the numbers and the line end
 abbrev pub lineOf : List ℕ → List ℕ → List ℕ
 lineOf key ns = key ++ (61 ∷ (list ns ++ (10 ∷ [])))
+
+-- one text after another
+abbrev pub each : {X : Type 0} → (X → List ℕ) → List X → List ℕ
+each w [] = []
+each w (x ∷ xs) = w x ++ each w xs

@@ -20,6 +20,8 @@ pub use render::Render;
 pub use sink::Sink;
 pub use writing::list_line;
 pub use writing::number_line;
+pub use writing::put;
+pub use writing::put_all;
 pub use writing::put_bytes;
 pub use writing::put_list;
 pub use writing::put_number;

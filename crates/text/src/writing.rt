@@ -4,7 +4,7 @@ ghost use mathlib.Core.List.{[], _∷_, _++_};
 ghost use Prim.Native.Nat.{_+_, _%_, _≤_};
 ghost use lib.ListN.{length, drop};
 ghost use Rattle.std.specs.Written.{decimal};
-ghost use Rattle.text.specs.Lists.{list, lineOf};
+ghost use Rattle.text.specs.Lists.{list, lineOf, each};
 ghost use Rattle.text.specs.Rendered.{Measured, Written};
 ghost use Rattle.text.specs.Fed.{Fed};
 ghost use Rattle.text.specs.Sinks.{Feeds};
@@ -93,6 +93,22 @@ pub fn list_line<S: Sink>(sink: &mut S, key: &[u8], ns: &[u16])
 {
     list_entry(sink, key, ns);
     push(sink, b'\n');
+}
+
+// Writes the value among others.
+pub fn put<S: Sink, R: Render>(sink: &mut S, what: &R)
+    ensures { λ _. ⌜ Feeds takes (now (sink .entry)) (text (now (what .entry))) (now (sink .exit)) ⌝ }
+{
+    what.render(sink);
+}
+
+// Writes the values one after another.
+pub fn put_all<S: Sink, R: Render>(sink: &mut S, items: &[R])
+    ensures { λ _. ⌜ Feeds takes (now (sink .entry)) (each text (now (items .entry))) (now (sink .exit)) ⌝ }
+{
+    for item in items {
+        put(sink, item);
+    }
 }
 
 // The length of the text, or the refusal where that is more than the size.
