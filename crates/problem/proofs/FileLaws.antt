@@ -72,12 +72,16 @@ file-lawful : Lawful problemFile
 unfolding problemFile
 file-lawful = via-lawful fileSplit fileJoin fileParts parts-lawful (λ p. refl) rejoined
 
+text-is : (p : ProblemData) → problemFile .write p ≡ textOf p
+unfolding problemFile textOf
+text-is p = refl
+
 -- what was written loads as what it was written from
 pub file-there : (p : ProblemData) → legal p ≡ true → loads (textOf p) ≡ Ok p
-unfolding textOf loads
-file-there p e = whole-there problemFile file-lawful p (legal-good p e)
+unfolding loads
+file-there p e = ap loads (sym (text-is p)) ∙ whole-there problemFile file-lawful p (legal-good p e)
 
 -- what was loaded is legal, and is written back as it stood
 pub file-back : (text : List ℕ) (p : ProblemData) → loads text ≡ Ok p → (legal p ≡ true) × (textOf p ≡ text)
-unfolding textOf loads
-file-back text p e = let w = whole-back problemFile file-lawful text p e in (good-legal p (w .0), w .1)
+unfolding loads
+file-back text p e = let w = whole-back problemFile file-lawful text p e in (good-legal p (w .0), sym (text-is p) ∙ w .1)

@@ -5,7 +5,8 @@ use Prim.Native.Nat.{ℕ, zero, suc}
 use native.Mathlib.Omega.{arith}
 use Rattle.std.specs.declared.result.Result.the-variants.{Ok, Err}
 use Rattle.text.specs.Lines.{Got, got, bad}
-use Rattle.problem.specs.Formats.{Flaw, bind, Format, Lawful, via, both, GoodAll, writeAll, readAll, times, ended, whole}
+use Rattle.text.specs.Lists.{each}
+use Rattle.problem.specs.Formats.{Flaw, bind, Format, Lawful, via, both, GoodAll, readAll, times, ended, whole}
 
 abbrev pub Came : {X Y : Type 0} → Got Flaw X → (X → ℕ → ℕ → List ℕ → Got Flaw Y) → Got Flaw Y → Type 0
 Came {X = X} g f o = (x : X) × (l : ℕ) × (p : ℕ) × (r : List ℕ) × (g ≡ got x l p r) × (f x l p r ≡ o)
@@ -55,24 +56,24 @@ both-lawful {X = X} {Y = Y} F G law laws =
   }
 
 module _ {X : Type 0} (F : Format X) (law : Lawful F) where
-  reads-all : (n : ℕ) (xs : List X) → GoodAll (F .Good) n xs → (l p : ℕ) (rest : List ℕ) → (m : ℕ) × (q : ℕ) × (readAll (F .read) n l p (writeAll (F .write) xs ++ rest) ≡ got xs m q rest)
+  reads-all : (n : ℕ) (xs : List X) → GoodAll (F .Good) n xs → (l p : ℕ) (rest : List ℕ) → (m : ℕ) × (q : ℕ) × (readAll (F .read) n l p (each (F .write) xs ++ rest) ≡ got xs m q rest)
   reads-all zero [] g l p rest = (l, p, refl)
   reads-all zero (x ∷ xs) g l p rest = absurd g
   reads-all (suc n) [] g l p rest = absurd g
   reads-all (suc n) (x ∷ xs) g l p rest =
     let next : X → ℕ → ℕ → List ℕ → Got Flaw (List X) = λ y m q cs. bind (readAll (F .read) n m q cs) (λ ys. got (y ∷ ys)) in
-    let h = law .reads-back x (g .0) l p (writeAll (F .write) xs ++ rest) in
+    let h = law .reads-back x (g .0) l p (each (F .write) xs ++ rest) in
     let k = reads-all n xs (g .1) (h .0) (h .1) rest in
     (k .0, k .1,
-      ap (λ (cs : List ℕ). bind (F .read l p cs) next) (append-assoc (F .write x) (writeAll (F .write) xs) rest)
+      ap (λ (cs : List ℕ). bind (F .read l p cs) next) (append-assoc (F .write x) (each (F .write) xs) rest)
       ∙ ap (λ (o : Got Flaw X). bind o next) (h .2)
       ∙ ap (λ (o : Got Flaw (List X)). bind o (λ ys. got (x ∷ ys))) (k .2))
 
-  writes-all : (n l p : ℕ) (bs : List ℕ) (xs : List X) (m q : ℕ) (rest : List ℕ) → readAll (F .read) n l p bs ≡ got xs m q rest → GoodAll (F .Good) n xs × (bs ≡ writeAll (F .write) xs ++ rest)
+  writes-all : (n l p : ℕ) (bs : List ℕ) (xs : List X) (m q : ℕ) (rest : List ℕ) → readAll (F .read) n l p bs ≡ got xs m q rest → GoodAll (F .Good) n xs × (bs ≡ each (F .write) xs ++ rest)
   writes-all zero l p bs xs m q rest e =
     let xs-is : [] ≡ xs = cc in
     let r-is : bs ≡ rest = cc in
-    (subst (GoodAll (F .Good) zero) xs-is tt, (λ i. writeAll (F .write) (xs-is i) ++ r-is i))
+    (subst (GoodAll (F .Good) zero) xs-is tt, (λ i. each (F .write) (xs-is i) ++ r-is i))
   writes-all (suc n) l p bs xs m q rest e =
     let w = came (F .read l p bs) (λ y m q cs. bind (readAll (F .read) n m q cs) (λ ys. got (y ∷ ys))) xs m q rest e in
     let v = came (readAll (F .read) n (w .1) (w .2) (w .3)) (λ ys. got (w .0 ∷ ys)) xs m q rest (w .5) in
@@ -83,8 +84,8 @@ module _ {X : Type 0} (F : Format X) (law : Lawful F) where
     let r-is : v .3 ≡ rest = cc in
     (subst (GoodAll (F .Good) (suc n)) xs-is (j .0, k .0),
       j .1 ∙ ap (λ (cs : List ℕ). F .write (w .0) ++ cs) (k .1)
-      ∙ sym (append-assoc (F .write (w .0)) (writeAll (F .write) (v .0)) (v .3))
-      ∙ (λ i. writeAll (F .write) (xs-is i) ++ r-is i))
+      ∙ sym (append-assoc (F .write (w .0)) (each (F .write) (v .0)) (v .3))
+      ∙ (λ i. each (F .write) (xs-is i) ++ r-is i))
 
   pub times-lawful : (n : ℕ) → Lawful (times n F)
   times-lawful n = record { reads-back = reads-all n; writes-back = writes-all n }

@@ -7,3 +7,4 @@ pub mod Turns
 pub mod FileReading
 pub mod PlanLaws
 pub mod PlanReading
+pub mod Texts

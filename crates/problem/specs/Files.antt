@@ -1,10 +1,11 @@
 -- The problem file: its lines in their order. Assumes nothing.
 use mathlib.Core.Bool.{true, false}
-use mathlib.Core.List.{List}
+use mathlib.Core.List.{List, [], _∷_, _++_}
 use Prim.Native.Nat.{ℕ, _+_}
 use lib.Chars.{codes}
 use lib.ListN.{length}
 use Rattle.std.specs.declared.result.Result.{Result}
+use Rattle.text.specs.Lists.{lineOf, each}
 use Rattle.problem.specs.declared.rule.Rule.{Rule}
 use Rattle.problem.specs.Data.{OperatorData, MethodData, ProblemData}
 use Rattle.problem.specs.Formats.{Flaw, Format, aList, aNumber, ranged, via, both, times, whole}
@@ -111,9 +112,34 @@ fileParts = both head blocks
 unfoldable pub problemFile : Format ProblemData
 problemFile = via fileSplit fileJoin fileParts
 
--- the text of a problem
+-- the text of a problem, line by line
+abbrev pub headText : ProblemData → List ℕ
+headText p =
+  lineOf (codes "shop") (p .number ∷ [])
+  ++ (lineOf (codes "facts") (p .facts ∷ [])
+  ++ (lineOf (codes "ops") (length (p .operators) ∷ [])
+  ++ (lineOf (codes "tasks") (p .tasks ∷ [])
+  ++ (lineOf (codes "methods") (length (p .methods) ∷ [])
+  ++ (lineOf (codes "start") (p .start)
+  ++ lineOf (codes "first") (p .first))))))
+
+abbrev pub operatorText : OperatorData → List ℕ
+operatorText o =
+  lineOf (codes "shelf") (o .shelf ∷ [])
+  ++ (lineOf (codes "yes") (o .yes)
+  ++ (lineOf (codes "no") (o .no)
+  ++ (lineOf (codes "add") (o .add)
+  ++ lineOf (codes "del") (o .del))))
+
+abbrev pub methodText : MethodData → List ℕ
+methodText m =
+  lineOf (codes "for") (m .task ∷ [])
+  ++ (lineOf (codes "yes") (m .yes)
+  ++ (lineOf (codes "no") (m .no)
+  ++ lineOf (codes "sub") (m .sub)))
+
 unfoldable pub textOf : ProblemData → List ℕ
-textOf p = problemFile .write p
+textOf p = headText p ++ (each operatorText (p .operators) ++ each methodText (p .methods))
 
 -- the problem that a text means, or its first flaw
 unfoldable pub loads : List ℕ → Result ProblemData Flaw

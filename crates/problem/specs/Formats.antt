@@ -14,7 +14,7 @@ use Rattle.base.specs.declared.question.Question.{Question}
 use Rattle.base.specs.declared.question.Question.the-variants.{NumberInRange, ListWithinLength, ListAscends, FileEnds}
 use Rattle.text.specs.declared.place.Numbered.{Numbered}
 use Rattle.text.specs.declared.place.TextFault.{TextFault}
-use Rattle.text.specs.Lists.{lineOf}
+use Rattle.text.specs.Lists.{lineOf, each}
 use Rattle.text.specs.Values.{values}
 use Rattle.text.specs.Viability.{Each}
 use Rattle.text.specs.Lines.{Got, got, bad, placeOf, after, aLine}
@@ -144,16 +144,12 @@ GoodAll P zero (x ∷ xs) = ⊥
 GoodAll P (suc n) [] = ⊥
 GoodAll P (suc n) (x ∷ xs) = P x × GoodAll P n xs
 
-abbrev pub writeAll : {X : Type 0} → (X → List ℕ) → List X → List ℕ
-writeAll w [] = []
-writeAll w (x ∷ xs) = w x ++ writeAll w xs
-
 abbrev pub readAll : {X : Type 0} → (ℕ → ℕ → List ℕ → Got Flaw X) → ℕ → ℕ → ℕ → List ℕ → Got Flaw (List X)
 readAll r zero l p bs = got [] l p bs
 readAll r (suc n) l p bs = bind (r l p bs) (λ x m q cs. bind (readAll r n m q cs) (λ xs. got (x ∷ xs)))
 
 abbrev pub times : {X : Type 0} → ℕ → Format X → Format (List X)
-times n F = record { Good = GoodAll (F .Good) n; write = writeAll (F .write); read = readAll (F .read) n }
+times n F = record { Good = GoodAll (F .Good) n; write = each (F .write); read = readAll (F .read) n }
 
 -- question 7: a whole text, which ends after its last line
 abbrev pub ended : {X : Type 0} → Got Flaw X → Result X Flaw

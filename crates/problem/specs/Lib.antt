@@ -7,3 +7,4 @@ pub mod Files
 pub mod Heads
 pub mod Loaded
 pub mod Plans
+pub mod Texts

@@ -3,10 +3,12 @@ use mathlib.Core.Path.{_≡_}
 use mathlib.Core.Bool.{true}
 use mathlib.Core.List.{List, [], _∷_}
 use Prim.Native.Nat.{ℕ}
+use lib.ListN.{take}
 use Rattle.std.specs.declared.option.Option.{Option}
 use Rattle.std.specs.declared.option.Option.the-variants.{Some, None}
 use Rattle.std.specs.declared.result.Result.{Result}
 use Rattle.std.specs.declared.result.Result.the-variants.{Ok, Err}
+use Rattle.base.specs.declared.question.Question.{Question}
 use Rattle.problem.specs.declared.definition.Problem.{Problem}
 use Rattle.problem.specs.declared.faults.ProblemFault.{ProblemFault}
 use Rattle.problem.specs.Data.{ProblemData, dataOf}
@@ -48,3 +50,8 @@ Loads-exactly text = (p : ProblemData) → (loads text ≡ Ok p → (legal p ≡
 abbrev pub Back : List ℕ → Result (Unit {0}) ProblemFault → Problem → Type 0
 Back text (Ok u) after = textOf (problemOf after) ≡ text
 Back text (Err e) after = Unit {0}
+
+-- what was written loads as what it was written from
+abbrev pub Loads-back : ProblemData → List ℕ → Result ℕ Question → Type 0
+Loads-back p after (Ok n) = loads (take n after) ≡ Ok p
+Loads-back p after (Err q) = Unit {0}

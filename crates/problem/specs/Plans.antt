@@ -17,12 +17,12 @@ use Rattle.std.specs.declared.result.Result.the-variants.{Ok, Err}
 use Rattle.base.specs.declared.question.Question.{Question}
 use Rattle.base.specs.declared.question.Question.the-variants.{NumberInRange, SameProblem, SliceLongEnough}
 use Rattle.text.specs.Lines.{got, after}
-use Rattle.text.specs.Lists.{lineOf}
+use Rattle.text.specs.Lists.{lineOf, each}
 use Rattle.problem.specs.declared.entries.Row.{Row}
 use Rattle.problem.specs.declared.entries.Row.the-variants.{By, Do}
 use Rattle.problem.specs.declared.faults.PlanFault.{PlanFault}
 use Rattle.problem.specs.Data.{ProblemData}
-use Rattle.problem.specs.Formats.{Flaw, bind, inside, Format, aNumber, ranged, via, both, writeAll, times, whole}
+use Rattle.problem.specs.Formats.{Flaw, bind, inside, Format, aNumber, ranged, via, both, times, whole}
 use Rattle.problem.specs.Legal.{every}
 use Rattle.problem.specs.Loaded.{Tells}
 use Rattle.problem.specs.Reads.{planFlawOf}
@@ -76,7 +76,7 @@ planFile p room = via (planSplit p) planJoin (planLines p room)
 
 -- the text of a plan of that problem
 unfoldable pub planText : ProblemData → List Row → List ℕ
-planText p rows = lineOf (codes "shop") (p .number ∷ []) ++ (lineOf (codes "rows") (length rows ∷ []) ++ writeAll rowText rows)
+planText p rows = lineOf (codes "shop") (p .number ∷ []) ++ (lineOf (codes "rows") (length rows ∷ []) ++ each rowText rows)
 
 -- the rows that a text means, for a slice with room for so many, or its first flaw
 unfoldable pub planLoads : ProblemData → ℕ → List ℕ → Result (List Row) Flaw

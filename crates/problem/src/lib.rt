@@ -6,6 +6,7 @@ mod lines;
 mod loading;
 mod plans;
 mod rule;
+mod writing;
 
 pub use definition::Problem;
 pub use entries::Method;

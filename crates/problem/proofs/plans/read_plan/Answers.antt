@@ -1,28 +1,14 @@
 use mathlib.Core.Path.{_≡_, refl, sym, ap, _∙_}
-use mathlib.Core.List.{map}
-use Prim.Native.Nat.{ℕ}
-use lib.ListN.{length}
-use Rattle.std.specs.Of.Vec.{vec-items, vec-len}
 use Rattle.std.specs.declared.result.Result.the-variants.{Err}
-use Rattle.std.proofs.shelf.Lists.{length-map}
 use Rattle.std.proofs.shelf.Results.{err-from-errBy}
-use Rattle.problem.specs.declared.definition.Problem.{Problem}
 use Rattle.problem.specs.declared.faults.Refusal.{Refusal}
-use Rattle.problem.specs.Data.{operatorOf, methodOf}
 use Rattle.problem.specs.Formats.{ofEntry}
 use Rattle.problem.specs.Loaded.{problemOf}
 use Rattle.problem.specs.Reads.{planFlawOf}
 use Rattle.problem.proofs.FileReading.{ends-there, goes-on}
 use Rattle.problem.proofs.PlanReading.{shop-fails, count-fails, rows-fail, plan-read}
+use Rattle.problem.proofs.Texts.{methods-are, operators-are}
 use Rattle.problem.proofs.plans.read_plan.Needs as need
-
-methods-are : (p : Problem) (n : ℕ) → n ≡ vec-len (p .methods) → n ≡ length (problemOf p .methods)
-unfolding problemOf
-methods-are p n e = e ∙ p .methods .ok .0 ∙ sym (length-map (vec-items (p .methods)) methodOf)
-
-operators-are : (p : Problem) (n : ℕ) → n ≡ vec-len (p .operators) → n ≡ length (problemOf p .operators)
-unfolding problemOf
-operators-are p n e = e ∙ p .operators .ok .0 ∙ sym (length-map (vec-items (p .operators)) operatorOf)
 
 pub returns-in-Break-read-shop : need.returns-in-Break-read-shop
 unfolding problemOf
@@ -44,7 +30,7 @@ returns-in-Break-rows c =
   let p = err-from-errBy (c .from-residual-in-Break-rows .result) (c .from-residual-in-Break-rows .ensures .1) in
   simp (p .1, p .2) (rows-fail (problemOf (c .args .problem .now)) (c .args .room) (c .new-reader .result) (c .args .text .now) (c .new-reader .ensures .start) (c .new-reader .ensures .text)
     _ (c .read-shop .last .reader) (c .in-Continue-read-shop .ensures tt .reads) _ (c .read-count .last .reader) (c .in-Continue-count .ensures tt .reads)
-    (c .len .result) (c .len-2 .result) (methods-are (c .args .problem .now) _ (c .len .ensures)) (operators-are (c .args .problem .now) _ (c .len-2 .ensures))
+    (c .len .result) (c .len-2 .result) (c .len .ensures ∙ methods-are (c .args .problem .now)) (c .len-2 .ensures ∙ operators-are (c .args .problem .now))
     (planFlawOf (c .in-Break-rows .field-0 .0)) (c .in-Break-rows .ensures tt .reads))
 
 pub returns-in-Break-finish : need.returns-in-Break-finish
@@ -54,7 +40,7 @@ returns-in-Break-finish c =
   let f = c .in-Break-finish .ensures tt in
   simp (p .1, p .2) (plan-read (problemOf (c .args .problem .now)) (c .args .room) (c .new-reader .result) (c .args .text .now) (c .new-reader .ensures .start) (c .new-reader .ensures .text)
     _ (c .read-shop .last .reader) (c .in-Continue-read-shop .ensures tt .reads) _ (c .read-count .last .reader) (c .in-Continue-count .ensures tt .reads)
-    (c .len .result) (c .len-2 .result) (methods-are (c .args .problem .now) _ (c .len .ensures)) (operators-are (c .args .problem .now) _ (c .len-2 .ensures))
+    (c .len .result) (c .len-2 .result) (c .len .ensures ∙ methods-are (c .args .problem .now)) (c .len-2 .ensures ∙ operators-are (c .args .problem .now))
     _ (c .read-rows .last .reader) (c .in-Continue-rows .ensures tt .reads)
     ∙ goes-on _ _ _ _ (f .0) ∙ ap (λ (e : Refusal). Err (ofEntry e)) (sym (f .1)))
 
@@ -63,6 +49,6 @@ unfolding problemOf
 returns c =
   plan-read (problemOf (c .args .problem .now)) (c .args .room) (c .new-reader .result) (c .args .text .now) (c .new-reader .ensures .start) (c .new-reader .ensures .text)
     _ (c .read-shop .last .reader) (c .in-Continue-read-shop .ensures tt .reads) _ (c .read-count .last .reader) (c .in-Continue-count .ensures tt .reads)
-    (c .len .result) (c .len-2 .result) (methods-are (c .args .problem .now) _ (c .len .ensures)) (operators-are (c .args .problem .now) _ (c .len-2 .ensures))
+    (c .len .result) (c .len-2 .result) (c .len .ensures ∙ methods-are (c .args .problem .now)) (c .len-2 .ensures ∙ operators-are (c .args .problem .now))
     _ (c .read-rows .last .reader) (c .in-Continue-rows .ensures tt .reads)
     ∙ ends-there _ _ _ _ (c .in-Continue-finish .ensures tt)

@@ -1,20 +1,14 @@
 use mathlib.Core.Path.{_≡_, refl, sym, ap, _∙_}
-use mathlib.Core.Bool.{true}
 use mathlib.Core.List.{_++_}
 use Prim.Native.Nat.{ℕ, _≤_}
 use native.Mathlib.Omega.{arith}
 use lib.ListN.{length, drop}
 use Rattle.std.specs.Of.Vec.{vec-items}
 use Rattle.std.proofs.shelf.Results.{err-from-errBy}
-use Rattle.problem.specs.declared.definition.Problem.{Problem}
-use Rattle.problem.specs.Legal.{legal}
 use Rattle.problem.specs.Loaded.{problemOf}
 use Rattle.problem.proofs.PlanLaws.{plan-back, plan-exactly}
+use Rattle.problem.proofs.Texts.{keeps}
 use Rattle.problem.proofs.definition.Problem.load_plan.Needs as need
-
-keeps : (p : Problem) → legal (problemOf p) ≡ true
-unfolding problemOf
-keeps p = p .legal
 
 pub returns-in-Break-loaded : need.returns-in-Break-loaded
 returns-in-Break-loaded c =
