@@ -8,3 +8,4 @@ pub mod FileReading
 pub mod PlanLaws
 pub mod PlanReading
 pub mod Texts
+pub mod PlanTexts

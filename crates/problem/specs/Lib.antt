@@ -8,3 +8,4 @@ pub mod Heads
 pub mod Loaded
 pub mod Plans
 pub mod Texts
+pub mod PlanBytes

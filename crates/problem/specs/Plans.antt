@@ -2,10 +2,10 @@
 use mathlib.Core.Path.{_≡_}
 use mathlib.Core.Bool.{Bool, true, false, cond, _&&_}
 use mathlib.Core.List.{List, [], _∷_, _++_}
-use Prim.Native.Nat.{ℕ, _+_, _≤_}
+use Prim.Native.Nat.{ℕ, _+_, _≤_, _<_}
 use lib.Chars.{codes}
 use lib.Dec.{eqb, ltb, leb}
-use lib.ListN.{length, drop}
+use lib.ListN.{length, take, drop}
 use Rattle.std.specs.Options.{isSome}
 use Rattle.std.specs.Of.Vec.{vec-items}
 use Rattle.std.specs.declared.alloc.Global.{Global}
@@ -15,12 +15,13 @@ use Rattle.std.specs.declared.option.Option.the-variants.{Some, None}
 use Rattle.std.specs.declared.result.Result.{Result}
 use Rattle.std.specs.declared.result.Result.the-variants.{Ok, Err}
 use Rattle.base.specs.declared.question.Question.{Question}
-use Rattle.base.specs.declared.question.Question.the-variants.{NumberInRange, SameProblem, SliceLongEnough}
+use Rattle.base.specs.declared.question.Question.the-variants.{NumberInRange, SameProblem, SliceLongEnough, WithinRowLimit, TextFits}
 use Rattle.text.specs.Lines.{got, after}
 use Rattle.text.specs.Lists.{lineOf, each}
 use Rattle.problem.specs.declared.entries.Row.{Row}
 use Rattle.problem.specs.declared.entries.Row.the-variants.{By, Do}
 use Rattle.problem.specs.declared.faults.PlanFault.{PlanFault}
+use Rattle.problem.specs.declared.faults.RowFault.{RowFault}
 use Rattle.problem.specs.Data.{ProblemData}
 use Rattle.problem.specs.Formats.{Flaw, bind, inside, Format, aNumber, ranged, via, both, times, whole}
 use Rattle.problem.specs.Legal.{every}
@@ -82,10 +83,13 @@ planText p rows = lineOf (codes "shop") (p .number ∷ []) ++ (lineOf (codes "ro
 unfoldable pub planLoads : ProblemData → ℕ → List ℕ → Result (List Row) Flaw
 planLoads p room text = whole (planFile p room) text
 
--- a row names a method or an operator of the problem
+-- a row names one of so many methods or operators
+abbrev pub knownAmong : ℕ → ℕ → Row → Bool
+knownAmong methods ops (By m) = ltb m methods
+knownAmong methods ops (Do o) = ltb o ops
+
 abbrev pub known : ProblemData → Row → Bool
-known p (By m) = ltb m (length (p .methods))
-known p (Do o) = ltb o (length (p .operators))
+known p = knownAmong (length (p .methods)) (length (p .operators))
 
 -- at most 2,000 rows, each of the problem
 abbrev pub legalPlan : ProblemData → List Row → Bool
@@ -107,3 +111,31 @@ abbrev pub Plan-exactly : ProblemData → ℕ → List ℕ → Type 0
 Plan-exactly p room text = (rows : List Row)
   → (planLoads p room text ≡ Ok rows → (legalPlan p rows ≡ true) × (length rows ≤ room) × (planText p rows ≡ text))
   × (legalPlan p rows ≡ true → length rows ≤ room → planText p rows ≡ text → planLoads p room text ≡ Ok rows)
+
+-- question 4: the first row, counted on from i, that names no method or operator of the problem
+abbrev pub unknownAt : ℕ → ℕ → ℕ → List Row → Option ℕ
+unknownAt methods ops i [] = None
+unknownAt methods ops i (r ∷ rs) = cond (knownAmong methods ops r) (unknownAt methods ops (i + 1) rs) (Some i)
+
+abbrev pub rowFault : Question → ℕ → RowFault
+rowFault q row = record { question = q; row = row }
+
+abbrev pub unknownRow : Option ℕ → Option RowFault
+unknownRow None = None
+unknownRow (Some row) = Some (rowFault NumberInRange row)
+
+-- questions 21 and 4: why the rows are no plan of the problem
+abbrev pub planRefusal : ProblemData → List Row → Option RowFault
+planRefusal p rows = cond (leb (length rows) 2000) (unknownRow (unknownAt (length (p .methods)) (length (p .operators)) 1 rows)) (Some (rowFault WithinRowLimit 0))
+
+-- then question 22: the text stands at the start of the bytes, and what is beyond it is as it was; or it is longer than the bytes.
+-- A refusal alters none of them
+abbrev pub Plan-written : List ℕ → Option RowFault → List ℕ → List ℕ → Result ℕ RowFault → Type 0
+Plan-written text (Some f) before after r = (r ≡ Err f) × (after ≡ before)
+Plan-written text None before after (Ok n) = (n ≡ length text) × (n ≤ length before) × (after ≡ text ++ drop n before)
+Plan-written text None before after (Err f) = (f ≡ rowFault TextFits 0) × (length before < length text) × (after ≡ before)
+
+-- what was written loads as the rows that it was written from, into every slice that has room for them
+abbrev pub Plan-loads-back : ProblemData → List Row → List ℕ → Result ℕ RowFault → Type 0
+Plan-loads-back p rows after (Ok n) = (room : ℕ) → length rows ≤ room → planLoads p room (take n after) ≡ Ok rows
+Plan-loads-back p rows after (Err f) = Unit {0}

@@ -18,6 +18,13 @@ pub struct Refusal {
     pub place: Place,
 }
 
+// The question that was answered no, and the row of what it was asked of: rows count from 1, and 0 stands for none.
+#[derive(Clone, Copy, Debug)]
+pub struct RowFault {
+    pub question: Question,
+    pub row: usize,
+}
+
 // A problem file was not loaded: its text is at fault, an entry of it is, or memory is wanting.
 #[derive(Clone, Copy, Debug)]
 pub enum ProblemFault {
