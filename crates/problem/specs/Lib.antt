@@ -9,3 +9,4 @@ pub mod Loaded
 pub mod Plans
 pub mod Texts
 pub mod PlanBytes
+pub mod Reports

@@ -6,6 +6,7 @@ mod lines;
 mod loading;
 mod plan_writing;
 mod plans;
+mod reports;
 mod rule;
 mod writing;
 
