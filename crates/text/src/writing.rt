@@ -43,8 +43,10 @@ fn last_digit(n: usize) -> u8
 pub fn put_number<S: Sink>(sink: &mut S, n: usize)
     ensures { λ _. ⌜ Feeds takes (now (sink .entry)) (decimal n) (now (sink .exit)) ⌝ }
 {
-    if n >= 10 {
+    if n >= 100 {
         put_number(sink, n / 10);
+    } else if n >= 10 {
+        push(sink, last_digit(n / 10));
     }
     push(sink, last_digit(n));
 }
