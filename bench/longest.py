@@ -1,5 +1,5 @@
 #!/usr/bin/env python3
-"""Writes the longest legal problem file to `longest` beside this script: 25,679 bytes."""
+"""Writes the longest legal problem file, 25,679 bytes, to crates/cases/data/longest."""
 
 from pathlib import Path
 
@@ -37,4 +37,4 @@ text = (line("shop", 65_535) + line("facts", FACTS) + line("ops", OPS) + line("t
         + line("methods", METHODS) + line("start", *range(FACTS)) + line("first", *tasks(0, 16))
         + "".join(map(operator, range(OPS))) + "".join(map(method, range(METHODS))))
 assert len(text) == LONGEST, len(text)
-Path(__file__).with_name("longest").write_bytes(text.encode())
+Path(__file__).parent.with_name("crates").joinpath("cases/data/longest").write_bytes(text.encode())

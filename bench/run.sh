@@ -3,7 +3,7 @@
 # `rt check repeat` builds, against bench/plain. Usage: bench/run.sh [COUNT [RUNS]]
 set -euo pipefail
 cd "$(dirname "$0")/.."
-count=${1:-2000} runs=${2:-15} text=bench/longest
+count=${1:-2000} runs=${2:-15} text=crates/cases/data/longest
 ours=target/bin/repeat plain=bench/plain/target/release/plain
 
 cargo build --quiet --release --offline --manifest-path bench/plain/Cargo.toml

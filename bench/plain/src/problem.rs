@@ -295,7 +295,7 @@ impl Reader<'_> {
 mod tests {
     use super::*;
 
-    const TEXT: &[u8; LONGEST] = include_bytes!("../../longest");
+    const TEXT: &[u8; LONGEST] = include_bytes!("../../../crates/cases/data/longest");
 
     #[test]
     fn writes_what_was_loaded() {

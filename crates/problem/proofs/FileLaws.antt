@@ -18,34 +18,34 @@ use Rattle.problem.proofs.Legality.{legal-good, good-legal}
 
 head-lines-lawful : Lawful headLines
 head-lines-lawful =
-  both-lawful _ _ (number-lawful (codes "shop") (ranged 0 65536)) (λ _.
-  both-lawful _ _ (number-lawful (codes "facts") (ranged 1 257)) (λ facts.
-  both-lawful _ _ (number-lawful (codes "ops") (ranged 1 65)) (λ ops.
-  both-lawful _ _ (number-lawful (codes "tasks") (ranged 0 65)) (λ tasks.
-  both-lawful _ _ (number-lawful (codes "methods") (ranged 0 129)) (λ _.
-  both-lawful _ _ (list-lawful (codes "start") (factRule 256 facts)) (λ _.
-  list-lawful (codes "first") (taskRule 16 (ops + tasks))))))))
+    both-lawful _ _ (number-lawful (codes "shop") (ranged 0 65536)) (λ _.
+    both-lawful _ _ (number-lawful (codes "facts") (ranged 1 257)) (λ facts.
+    both-lawful _ _ (number-lawful (codes "ops") (ranged 1 65)) (λ ops.
+    both-lawful _ _ (number-lawful (codes "tasks") (ranged 0 65)) (λ tasks.
+    both-lawful _ _ (number-lawful (codes "methods") (ranged 0 129)) (λ _.
+    both-lawful _ _ (list-lawful (codes "start") (factRule 256 facts)) (λ _.
+    list-lawful (codes "first") (taskRule 16 (ops + tasks))))))))
 
 head-lawful : Lawful head
 head-lawful = via-lawful headSplit headJoin headLines head-lines-lawful (λ h. refl) (λ z g. refl)
 
 operator-lines-lawful : (facts : ℕ) → Lawful (operatorLines facts)
 operator-lines-lawful facts =
-  both-lawful _ _ (number-lawful (codes "shelf") (ranged 0 65536)) (λ _.
-  both-lawful _ _ (list-lawful (codes "yes") (factRule 8 facts)) (λ _.
-  both-lawful _ _ (list-lawful (codes "no") (factRule 8 facts)) (λ _.
-  both-lawful _ _ (list-lawful (codes "add") (factRule 8 facts)) (λ _.
-  list-lawful (codes "del") (factRule 8 facts)))))
+    both-lawful _ _ (number-lawful (codes "shelf") (ranged 0 65536)) (λ _.
+    both-lawful _ _ (list-lawful (codes "yes") (factRule 8 facts)) (λ _.
+    both-lawful _ _ (list-lawful (codes "no") (factRule 8 facts)) (λ _.
+    both-lawful _ _ (list-lawful (codes "add") (factRule 8 facts)) (λ _.
+    list-lawful (codes "del") (factRule 8 facts)))))
 
 operator-lawful : (facts : ℕ) → Lawful (operator facts)
 operator-lawful facts = via-lawful operatorSplit operatorJoin (operatorLines facts) (operator-lines-lawful facts) (λ o. refl) (λ z g. refl)
 
 method-lines-lawful : (facts ops tasks : ℕ) → Lawful (methodLines facts ops tasks)
 method-lines-lawful facts ops tasks =
-  both-lawful _ _ (number-lawful (codes "for") (ranged ops (ops + tasks))) (λ _.
-  both-lawful _ _ (list-lawful (codes "yes") (factRule 8 facts)) (λ _.
-  both-lawful _ _ (list-lawful (codes "no") (factRule 8 facts)) (λ _.
-  list-lawful (codes "sub") (taskRule 8 (ops + tasks)))))
+    both-lawful _ _ (number-lawful (codes "for") (ranged ops (ops + tasks))) (λ _.
+    both-lawful _ _ (list-lawful (codes "yes") (factRule 8 facts)) (λ _.
+    both-lawful _ _ (list-lawful (codes "no") (factRule 8 facts)) (λ _.
+    list-lawful (codes "sub") (taskRule 8 (ops + tasks)))))
 
 method-lawful : (facts ops tasks : ℕ) → Lawful (method facts ops tasks)
 method-lawful facts ops tasks = via-lawful methodSplit methodJoin (methodLines facts ops tasks) (method-lines-lawful facts ops tasks) (λ m. refl) (λ z g. refl)
@@ -64,9 +64,9 @@ parts-lawful = both-lawful _ _ head-lawful blocks-lawful
 
 rejoined : (z : FileParts) → fileParts .Good z → fileSplit (fileJoin z) ≡ z
 rejoined z g =
-  let o : length (z .1 .0) ≡ z .0 .ops = good-length (operator (z .0 .facts) .Good) (z .0 .ops) (z .1 .0) (g .1 .0) in
-  let m : length (z .1 .1) ≡ z .0 .methods = good-length (method (z .0 .facts) (z .0 .ops) (z .0 .tasks) .Good) (z .0 .methods) (z .1 .1) (g .1 .1) in
-  λ i. (record { number = z .0 .number; facts = z .0 .facts; ops = o i; tasks = z .0 .tasks; methods = m i; start = z .0 .start; first = z .0 .first }, (z .1 .0, z .1 .1))
+    let o : length (z .1 .0) ≡ z .0 .ops = good-length (operator (z .0 .facts) .Good) (z .0 .ops) (z .1 .0) (g .1 .0) in
+    let m : length (z .1 .1) ≡ z .0 .methods = good-length (method (z .0 .facts) (z .0 .ops) (z .0 .tasks) .Good) (z .0 .methods) (z .1 .1) (g .1 .1) in
+    λ i. (record { number = z .0 .number; facts = z .0 .facts; ops = o i; tasks = z .0 .tasks; methods = m i; start = z .0 .start; first = z .0 .first }, (z .1 .0, z .1 .1))
 
 file-lawful : Lawful problemFile
 unfolding problemFile

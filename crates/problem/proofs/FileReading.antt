@@ -33,7 +33,7 @@ starts F s text e t = λ i. F .read (sym (e .0) i) (sym (e .1) i) (drop (sym (e 
 
 pub both-at : {X Y : Type 0} (F : Format X) (G : X → Format Y) (s t u : Reader) (x : X) (y : Y) → At F s x t → At (G x) t y u → At (both F G) s (x, y) u
 both-at {X = X} {Y = Y} F G s t u x y e f =
-  ap (λ (o : Got Flaw X). bind o (λ x m q cs. bind (G x .read m q cs) (λ y. got (x, y)))) e ∙ ap (λ (o : Got Flaw Y). bind o (λ y. got (x, y))) f
+    ap (λ (o : Got Flaw X). bind o (λ x m q cs. bind (G x .read m q cs) (λ y. got (x, y)))) e ∙ ap (λ (o : Got Flaw Y). bind o (λ y. got (x, y))) f
 
 -- a flaw stops what comes after it
 pub bind-fails : {X Y : Type 0} (g : Got Flaw X) (f : X → ℕ → ℕ → List ℕ → Got Flaw Y) (o : Option Flaw) → Fails g o → Fails (bind g f) o
@@ -44,7 +44,7 @@ bind-fails {X = X} g f (Some b) e = ap (λ (o : Got Flaw X). bind o f) e
 pub later-fails : {X Y : Type 0} (F : Format X) (G : X → Format Y) (s t : Reader) (x : X) (o : Option Flaw) → At F s x t → Fails (from (G x) t) o → Fails (from (both F G) s) o
 later-fails F G s t x None e f = tt
 later-fails {X = X} {Y = Y} F G s t x (Some b) e f =
-  ap (λ (o : Got Flaw X). bind o (λ x m q cs. bind (G x .read m q cs) (λ y. got (x, y)))) e ∙ ap (λ (o : Got Flaw Y). bind o (λ y. got (x, y))) f
+    ap (λ (o : Got Flaw X). bind o (λ x m q cs. bind (G x .read m q cs) (λ y. got (x, y)))) e ∙ ap (λ (o : Got Flaw Y). bind o (λ y. got (x, y))) f
 
 pub tells : {X : Type 0} (F : Format X) (s : Reader) (text : List ℕ) (o : Option Flaw) → (s .line ≡ 1) × (s .byte ≡ 0) → now (s .text) ≡ text → Fails (from F s) o → Tells (whole F text) o
 tells F s text None e t f = tt
@@ -73,9 +73,9 @@ module _ (r : Reader) (text : List ℕ) (start : (r .line ≡ 1) × (r .byte ≡
       pub methods-fail : (o : Option Flaw) → Fails (from (times (h .methods) (method (h .facts) (h .ops) (h .tasks))) t) o → Tells (loads text) o
       unfolding problemFile loads
       methods-fail o e = tells problemFile r text o start same (bind-fails (from fileParts r) (λ y. got (fileJoin y)) o (later-fails head blocks r s h o heads
-        (later-fails (times (h .ops) (operator (h .facts))) (λ _. times (h .methods) (method (h .facts) (h .ops) (h .tasks))) s t os o ops e)))
+          (later-fails (times (h .ops) (operator (h .facts))) (λ _. times (h .methods) (method (h .facts) (h .ops) (h .tasks))) s t os o ops e)))
 
       pub all-read : (ms : List MethodData) (u : Reader) → At (times (h .methods) (method (h .facts) (h .ops) (h .tasks))) t ms u → loads text ≡ ended (got (fileJoin (h, (os, ms))) (u .line) (u .byte) (left u))
       unfolding problemFile loads
       all-read ms u e = ap ended (starts problemFile r text start same ∙ ap (λ (o : Got Flaw FileParts). bind o (λ y. got (fileJoin y)))
-        (both-at head blocks r s u h (os, ms) heads (both-at (times (h .ops) (operator (h .facts))) (λ _. times (h .methods) (method (h .facts) (h .ops) (h .tasks))) s t u os ms ops e)))
+          (both-at head blocks r s u h (os, ms) heads (both-at (times (h .ops) (operator (h .facts))) (λ _. times (h .methods) (method (h .facts) (h .ops) (h .tasks))) s t u os ms ops e)))

@@ -34,23 +34,23 @@ module _ (methods ops : ℕ) where
 
   row-back : (l p : ℕ) (bs : List ℕ) (x : Row) (m q : ℕ) (rest : List ℕ) → row methods ops .read l p bs ≡ got x m q rest → rowGood methods ops x × (bs ≡ rowText x ++ rest)
   row-back l p bs x m q rest e =
-    let P : Row → Type 0 = λ y. rowGood methods ops y × (bs ≡ rowText y ++ rest) in
-    ⊎-elim
-    (λ t.
+      let P : Row → Type 0 = λ y. rowGood methods ops y × (bs ≡ rowText y ++ rest) in
+      ⊎-elim
+      (λ t.
       let w = came (byLine methods .read l p bs) (λ n. got (By n)) x m q rest (sym (cond-true (isSome (after (codes "by") bs)) _ _ t) ∙ e) in
       let k : got (By (w .0)) (w .1) (w .2) (w .3) ≡ got x m q rest = w .5 in
       let x-is : By (w .0) ≡ x = cc in
       let r-is : w .3 ≡ rest = cc in
       let h = number-lawful (codes "by") (ranged 0 methods) .writes-back l p bs (w .0) (w .1) (w .2) (w .3) (w .4) in
       subst P x-is (h .0, h .1 ∙ ap (λ (r : List ℕ). rowText (By (w .0)) ++ r) r-is))
-    (λ f.
+      (λ f.
       let w = came (doLine ops .read l p bs) (λ n. got (Do n)) x m q rest (sym (cond-false (isSome (after (codes "by") bs)) _ _ f) ∙ e) in
       let k : got (Do (w .0)) (w .1) (w .2) (w .3) ≡ got x m q rest = w .5 in
       let x-is : Do (w .0) ≡ x = cc in
       let r-is : w .3 ≡ rest = cc in
       let h = number-lawful (codes "do") (ranged 0 ops) .writes-back l p bs (w .0) (w .1) (w .2) (w .3) (w .4) in
       subst P x-is (h .0, h .1 ∙ ap (λ (r : List ℕ). rowText (Do (w .0)) ++ r) r-is))
-    (cases-bool (isSome (after (codes "by") bs)))
+      (cases-bool (isSome (after (codes "by") bs)))
 
   row-lawful : Lawful (row methods ops)
   row-lawful = record { reads-back = row-there; writes-back = row-back }
@@ -70,9 +70,9 @@ module _ (p : ProblemData) (room : ℕ) where
 
   rejoined : (z : PlanLines) → planLines p room .Good z → planSplit p (planJoin z) ≡ z
   rejoined z g =
-    let s : p .number ≡ z .0 = sym (eqb-true (z .0) (p .number) (passes (inside 0 65536 (z .0)) (eqb (z .0) (p .number)) SameProblem NumberInRange (g .0 .1) .1)) in
-    let n : length (z .1 .1) ≡ z .1 .0 = good-length (rowGood (length (p .methods)) (length (p .operators))) (z .1 .0) (z .1 .1) (g .1 .1) in
-    λ i. (s i, (n i, z .1 .1))
+      let s : p .number ≡ z .0 = sym (eqb-true (z .0) (p .number) (passes (inside 0 65536 (z .0)) (eqb (z .0) (p .number)) SameProblem NumberInRange (g .0 .1) .1)) in
+      let n : length (z .1 .1) ≡ z .1 .0 = good-length (rowGood (length (p .methods)) (length (p .operators))) (z .1 .0) (z .1 .1) (g .1 .1) in
+      λ i. (s i, (n i, z .1 .1))
 
   plan-lawful : Lawful (planFile p room)
   unfolding planFile
@@ -93,26 +93,29 @@ module _ (p : ProblemData) (room : ℕ) where
   legal-good : legal p ≡ true → (rows : List Row) → legalPlan p rows ≡ true → length rows ≤ room → planFile p room .Good rows
   unfolding planFile
   legal-good e rows l r =
-    let n : p .number ≤ 65535 = legal-limits p e .0 in
-    let a = and-parts (leb (length rows) 2000) (every (known p) rows) l in
-    let few : length rows ≤ 2000 = leb-true _ _ (a .0) in
-    ((n, passing (inside 0 65536 (p .number)) (eqb (p .number) (p .number)) SameProblem NumberInRange (and-from (leb 0 (p .number)) _ (le-leb _ _ (omega arith)) (lt-ltb _ _ (omega arith))) (eq-eqb (p .number) (p .number) refl)),
-    ((omega arith, passing (inside 0 2001 (length rows)) (leb (length rows) room) SliceLongEnough NumberInRange (and-from (leb 0 (length rows)) _ (le-leb _ _ (omega arith)) (lt-ltb _ _ (omega arith))) (le-leb _ _ r)),
-    all-good (known p) (rowGood (length (p .methods)) (length (p .operators))) (known-good e) rows (a .1)))
+      let n : p .number ≤ 65535 = legal-limits p e .0 in
+      let a = and-parts (leb (length rows) 2000) (every (known p) rows) l in
+      let few : length rows ≤ 2000 = leb-true _ _ (a .0) in (
+        (n, passing (inside 0 65536 (p .number)) (eqb (p .number) (p .number)) SameProblem NumberInRange (and-from (leb 0 (p .number)) _ (le-leb _ _ (omega arith)) (lt-ltb _ _ (omega arith))) (eq-eqb (p .number) (p .number) refl)),
+        (
+          (omega arith, passing (inside 0 2001 (length rows)) (leb (length rows) room) SliceLongEnough NumberInRange (and-from (leb 0 (length rows)) _ (le-leb _ _ (omega arith)) (lt-ltb _ _ (omega arith))) (le-leb _ _ r)),
+          all-good (known p) (rowGood (length (p .methods)) (length (p .operators))) (known-good e) rows (a .1),
+        ),
+      )
 
   good-legal : (rows : List Row) → planFile p room .Good rows → (legalPlan p rows ≡ true) × (length rows ≤ room)
   unfolding planFile
   good-legal rows g =
-    let w = passes (inside 0 2001 (length rows)) (leb (length rows) room) SliceLongEnough NumberInRange (g .1 .0 .1) in
-    let few : length rows < 2001 = ltb-true _ _ (and-parts (leb 0 (length rows)) (ltb (length rows) 2001) (w .0) .1) in
-    (and-from (leb (length rows) 2000) _ (le-leb _ _ (omega arith)) (good-all (known p) (rowGood (length (p .methods)) (length (p .operators))) good-known rows (g .1 .1)), leb-true _ _ (w .1))
+      let w = passes (inside 0 2001 (length rows)) (leb (length rows) room) SliceLongEnough NumberInRange (g .1 .0 .1) in
+      let few : length rows < 2001 = ltb-true _ _ (and-parts (leb 0 (length rows)) (ltb (length rows) 2001) (w .0) .1) in
+      (and-from (leb (length rows) 2000) _ (le-leb _ _ (omega arith)) (good-all (known p) (rowGood (length (p .methods)) (length (p .operators))) good-known rows (g .1 .1)), leb-true _ _ (w .1))
 
   pub plan-back : (text : List ℕ) (rows : List Row) → planLoads p room text ≡ Ok rows → (legalPlan p rows ≡ true) × (length rows ≤ room) × (planText p rows ≡ text)
   unfolding planLoads
   plan-back text rows e =
-    let w = whole-back (planFile p room) plan-lawful text rows e in
-    let l = good-legal rows (w .0) in
-    (l .0, l .1, sym (text-is rows) ∙ w .1)
+      let w = whole-back (planFile p room) plan-lawful text rows e in
+      let l = good-legal rows (w .0) in
+      (l .0, l .1, sym (text-is rows) ∙ w .1)
 
   pub plan-there : legal p ≡ true → (rows : List Row) → legalPlan p rows ≡ true → length rows ≤ room → planLoads p room (planText p rows) ≡ Ok rows
   unfolding planLoads

@@ -44,12 +44,12 @@ module _ (p : ProblemData) (room : ℕ) (r : Reader) (text : List ℕ) (start : 
     module _ (n : ℕ) (t : Reader) (counts : At rowsLine s n t) (methods ops : ℕ) (m-is : methods ≡ length (p .methods)) (o-is : ops ≡ length (p .operators)) where
       pub rows-fail : (o : Option Flaw) → Fails (from (times n (row methods ops)) t) o → Tells (planLoads p room text) o
       rows-fail o e =
-        let e′ : Fails (from (rowLines n) t) o = subst (λ (m : ℕ). Fails (from (times n (row m (length (p .operators)))) t) o) m-is (subst (λ (k : ℕ). Fails (from (times n (row methods k)) t) o) o-is e) in
-        whole-fails o (later-fails shopLine later r s shop o shops (later-fails rowsLine rowLines s t n o counts e′))
+          let e′ : Fails (from (rowLines n) t) o = subst (λ (m : ℕ). Fails (from (times n (row m (length (p .operators)))) t) o) m-is (subst (λ (k : ℕ). Fails (from (times n (row methods k)) t) o) o-is e) in
+          whole-fails o (later-fails shopLine later r s shop o shops (later-fails rowsLine rowLines s t n o counts e′))
 
       pub plan-read : (rows : List Row) (u : Reader) → At (times n (row methods ops)) t rows u → planLoads p room text ≡ ended (got rows (u .line) (u .byte) (left u))
       unfolding planFile planLoads
       plan-read rows u e =
-        let e′ : At (rowLines n) t rows u = subst (λ (m : ℕ). At (times n (row m (length (p .operators)))) t rows u) m-is (subst (λ (k : ℕ). At (times n (row methods k)) t rows u) o-is e) in
-        ap ended (starts (planFile p room) r text start same ∙ ap (λ (o : Got Flaw PlanLines). bind o (λ y. got (planJoin y)))
-        (both-at shopLine later r s u shop (n, rows) shops (both-at rowsLine rowLines s t u n rows counts e′)))
+          let e′ : At (rowLines n) t rows u = subst (λ (m : ℕ). At (times n (row m (length (p .operators)))) t rows u) m-is (subst (λ (k : ℕ). At (times n (row methods k)) t rows u) o-is e) in
+          ap ended (starts (planFile p room) r text start same ∙ ap (λ (o : Got Flaw PlanLines). bind o (λ y. got (planJoin y)))
+          (both-at shopLine later r s u shop (n, rows) shops (both-at rowsLine rowLines s t u n rows counts e′)))

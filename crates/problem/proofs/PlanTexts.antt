@@ -34,9 +34,9 @@ module _ (methods ops i : ℕ) (rows : List Row) (z : Row) (h : i < length rows)
 none-unknown : (p : ProblemData) (i : ℕ) (rows : List Row) → unknownAt (length (p .methods)) (length (p .operators)) i rows ≡ None → every (known p) rows ≡ true
 none-unknown p i [] e = refl
 none-unknown p i (r ∷ rs) e = ⊎-elim
-  (λ t. and-from (known p r) (every (known p) rs) t (none-unknown p (i + 1) rs (sym (cond-true (known p r) _ _ t) ∙ e)))
-  (λ f. let k : Some i ≡ None = sym (cond-false (known p r) _ _ f) ∙ e in let z : _≡_ {A = ℕ} 0 1 = cc in absurd (omega arith))
-  (cases-bool (known p r))
+    (λ t. and-from (known p r) (every (known p) rs) t (none-unknown p (i + 1) rs (sym (cond-true (known p r) _ _ t) ∙ e)))
+    (λ f. let k : Some i ≡ None = sym (cond-false (known p r) _ _ f) ∙ e in let z : _≡_ {A = ℕ} 0 1 = cc in absurd (omega arith))
+    (cases-bool (known p r))
 
 module _ (p : ProblemData) (rows : List Row) where
   module _ (few : length rows ≤ 2000) (methods ops : ℕ) (m-is : methods ≡ length (p .methods)) (o-is : ops ≡ length (p .operators)) where
@@ -46,7 +46,7 @@ module _ (p : ProblemData) (rows : List Row) where
     -- a row is refused
     pub row-refused : (row : ℕ) (text bytes : List ℕ) → Some row ≡ unknownAt methods ops 1 rows → Plan-written text (planRefusal p rows) bytes bytes (Err (rowFault NumberInRange row))
     row-refused row text bytes e =
-      subst (λ (o : Option RowFault). Plan-written text o bytes bytes (Err (rowFault NumberInRange row))) (sym (refusal-is ∙ ap unknownRow (sym e))) (refl, refl)
+        subst (λ (o : Option RowFault). Plan-written text o bytes bytes (Err (rowFault NumberInRange row))) (sym (refusal-is ∙ ap unknownRow (sym e))) (refl, refl)
 
     module _ (none : None ≡ unknownAt methods ops 1 rows) where
       passed : planRefusal p rows ≡ None

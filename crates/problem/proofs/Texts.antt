@@ -39,13 +39,13 @@ methods-are p = p .methods .ok .0 ∙ sym (length-map (vec-items (p .methods)) m
 head-is : (p : Problem) → headBytes p ≡ headText (problemOf p)
 unfolding problemOf
 head-is p = λ i.
-  lineOf (codes "shop") (p .number ∷ [])
-  ++ (lineOf (codes "facts") (p .facts ∷ [])
-  ++ (lineOf (codes "ops") (operators-are p i ∷ [])
-  ++ (lineOf (codes "tasks") (p .tasks ∷ [])
-  ++ (lineOf (codes "methods") (methods-are p i ∷ [])
-  ++ (lineOf (codes "start") (vec-items (p .start))
-  ++ lineOf (codes "first") (vec-items (p .first)))))))
+    lineOf (codes "shop") (p .number ∷ [])
+    ++ (lineOf (codes "facts") (p .facts ∷ [])
+    ++ (lineOf (codes "ops") (operators-are p i ∷ [])
+    ++ (lineOf (codes "tasks") (p .tasks ∷ [])
+    ++ (lineOf (codes "methods") (methods-are p i ∷ [])
+    ++ (lineOf (codes "start") (vec-items (p .start))
+    ++ lineOf (codes "first") (vec-items (p .first)))))))
 
 pub bytes-are : (p : Problem) → problemBytes p ≡ textOf (problemOf p)
 unfolding problemOf textOf

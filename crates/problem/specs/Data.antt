@@ -44,4 +44,4 @@ methodsOf v = map methodOf (vec-items v)
 
 abbrev pub dataOf : ℕ → ℕ → ℕ → Vec ℕ Global → Vec ℕ Global → Vec Operator Global → Vec Method Global → ProblemData
 dataOf number facts tasks start first operators methods =
-  record { number = number; facts = facts; tasks = tasks; start = vec-items start; first = vec-items first; operators = operatorsOf operators; methods = methodsOf methods }
+    record { number = number; facts = facts; tasks = tasks; start = vec-items start; first = vec-items first; operators = operatorsOf operators; methods = methodsOf methods }

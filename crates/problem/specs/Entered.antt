@@ -47,9 +47,9 @@ pub record Enters (s : Entries) (x : Numbered) (t : Entries) : Type 0 where
 -- the questions of a line whose numbers were handed on
 abbrev pub verdict : {X : Type 0} → Entries → ℕ → Got Flaw X → Got Flaw X
 verdict s l g =
-  unless NumberInRange l (s .outside)
-  (unless ListWithinLength l (s .excess)
-  (unless ListAscends l (cond (s .rule .ascending) (s .descent) None) g))
+    unless NumberInRange l (s .outside)
+    (unless ListWithinLength l (s .excess)
+    (unless ListAscends l (cond (s .rule .ascending) (s .descent) None) g))
 
 -- none fails and the numbers are kept; or one does
 abbrev pub Judges : Entries → ℕ → Result (Vec ℕ Global) Refusal → Type 0

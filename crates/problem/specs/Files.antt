@@ -39,13 +39,13 @@ headJoin z = record { number = z .0; facts = z .1 .0; ops = z .1 .1 .0; tasks = 
 
 abbrev pub headLines : Format HeadLines
 headLines =
-  both (aNumber (codes "shop") (ranged 0 65536)) (λ _.
-  both (aNumber (codes "facts") (ranged 1 257)) (λ facts.
-  both (aNumber (codes "ops") (ranged 1 65)) (λ ops.
-  both (aNumber (codes "tasks") (ranged 0 65)) (λ tasks.
-  both (aNumber (codes "methods") (ranged 0 129)) (λ _.
-  both (aList (codes "start") (factRule 256 facts)) (λ _.
-  aList (codes "first") (taskRule 16 (ops + tasks))))))))
+    both (aNumber (codes "shop") (ranged 0 65536)) (λ _.
+    both (aNumber (codes "facts") (ranged 1 257)) (λ facts.
+    both (aNumber (codes "ops") (ranged 1 65)) (λ ops.
+    both (aNumber (codes "tasks") (ranged 0 65)) (λ tasks.
+    both (aNumber (codes "methods") (ranged 0 129)) (λ _.
+    both (aList (codes "start") (factRule 256 facts)) (λ _.
+    aList (codes "first") (taskRule 16 (ops + tasks))))))))
 
 abbrev pub head : Format HeadData
 head = via headSplit headJoin headLines
@@ -62,11 +62,11 @@ operatorJoin z = record { shelf = z .0; yes = z .1 .0; no = z .1 .1 .0; add = z 
 
 abbrev pub operatorLines : ℕ → Format OperatorLines
 operatorLines facts =
-  both (aNumber (codes "shelf") (ranged 0 65536)) (λ _.
-  both (aList (codes "yes") (factRule 8 facts)) (λ _.
-  both (aList (codes "no") (factRule 8 facts)) (λ _.
-  both (aList (codes "add") (factRule 8 facts)) (λ _.
-  aList (codes "del") (factRule 8 facts)))))
+    both (aNumber (codes "shelf") (ranged 0 65536)) (λ _.
+    both (aList (codes "yes") (factRule 8 facts)) (λ _.
+    both (aList (codes "no") (factRule 8 facts)) (λ _.
+    both (aList (codes "add") (factRule 8 facts)) (λ _.
+    aList (codes "del") (factRule 8 facts)))))
 
 abbrev pub operator : ℕ → Format OperatorData
 operator facts = via operatorSplit operatorJoin (operatorLines facts)
@@ -83,10 +83,10 @@ methodJoin z = record { task = z .0; yes = z .1 .0; no = z .1 .1 .0; sub = z .1 
 
 abbrev pub methodLines : ℕ → ℕ → ℕ → Format MethodLines
 methodLines facts ops tasks =
-  both (aNumber (codes "for") (ranged ops (ops + tasks))) (λ _.
-  both (aList (codes "yes") (factRule 8 facts)) (λ _.
-  both (aList (codes "no") (factRule 8 facts)) (λ _.
-  aList (codes "sub") (taskRule 8 (ops + tasks)))))
+    both (aNumber (codes "for") (ranged ops (ops + tasks))) (λ _.
+    both (aList (codes "yes") (factRule 8 facts)) (λ _.
+    both (aList (codes "no") (factRule 8 facts)) (λ _.
+    aList (codes "sub") (taskRule 8 (ops + tasks)))))
 
 abbrev pub method : ℕ → ℕ → ℕ → Format MethodData
 method facts ops tasks = via methodSplit methodJoin (methodLines facts ops tasks)
@@ -96,9 +96,10 @@ abbrev pub FileParts : Type 0
 FileParts = HeadData × (List OperatorData × List MethodData)
 
 abbrev pub fileSplit : ProblemData → FileParts
-fileSplit p =
-  (record { number = p .number; facts = p .facts; ops = length (p .operators); tasks = p .tasks; methods = length (p .methods); start = p .start; first = p .first },
-  (p .operators, p .methods))
+fileSplit p = (
+  record { number = p .number; facts = p .facts; ops = length (p .operators); tasks = p .tasks; methods = length (p .methods); start = p .start; first = p .first },
+  (p .operators, p .methods),
+)
 
 abbrev pub fileJoin : FileParts → ProblemData
 fileJoin z = record { number = z .0 .number; facts = z .0 .facts; tasks = z .0 .tasks; start = z .0 .start; first = z .0 .first; operators = z .1 .0; methods = z .1 .1 }
@@ -115,28 +116,28 @@ problemFile = via fileSplit fileJoin fileParts
 -- the text of a problem, line by line
 abbrev pub headText : ProblemData → List ℕ
 headText p =
-  lineOf (codes "shop") (p .number ∷ [])
-  ++ (lineOf (codes "facts") (p .facts ∷ [])
-  ++ (lineOf (codes "ops") (length (p .operators) ∷ [])
-  ++ (lineOf (codes "tasks") (p .tasks ∷ [])
-  ++ (lineOf (codes "methods") (length (p .methods) ∷ [])
-  ++ (lineOf (codes "start") (p .start)
-  ++ lineOf (codes "first") (p .first))))))
+    lineOf (codes "shop") (p .number ∷ [])
+    ++ (lineOf (codes "facts") (p .facts ∷ [])
+    ++ (lineOf (codes "ops") (length (p .operators) ∷ [])
+    ++ (lineOf (codes "tasks") (p .tasks ∷ [])
+    ++ (lineOf (codes "methods") (length (p .methods) ∷ [])
+    ++ (lineOf (codes "start") (p .start)
+    ++ lineOf (codes "first") (p .first))))))
 
 abbrev pub operatorText : OperatorData → List ℕ
 operatorText o =
-  lineOf (codes "shelf") (o .shelf ∷ [])
-  ++ (lineOf (codes "yes") (o .yes)
-  ++ (lineOf (codes "no") (o .no)
-  ++ (lineOf (codes "add") (o .add)
-  ++ lineOf (codes "del") (o .del))))
+    lineOf (codes "shelf") (o .shelf ∷ [])
+    ++ (lineOf (codes "yes") (o .yes)
+    ++ (lineOf (codes "no") (o .no)
+    ++ (lineOf (codes "add") (o .add)
+    ++ lineOf (codes "del") (o .del))))
 
 abbrev pub methodText : MethodData → List ℕ
 methodText m =
-  lineOf (codes "for") (m .task ∷ [])
-  ++ (lineOf (codes "yes") (m .yes)
-  ++ (lineOf (codes "no") (m .no)
-  ++ lineOf (codes "sub") (m .sub)))
+    lineOf (codes "for") (m .task ∷ [])
+    ++ (lineOf (codes "yes") (m .yes)
+    ++ (lineOf (codes "no") (m .no)
+    ++ lineOf (codes "sub") (m .sub)))
 
 unfoldable pub textOf : ProblemData → List ℕ
 textOf p = headText p ++ (each operatorText (p .operators) ++ each methodText (p .methods))

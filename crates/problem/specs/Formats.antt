@@ -73,9 +73,9 @@ unless q l (Some p) g = bad (entryFlaw q l p)
 -- questions 4, 5 and 6, each of the whole line before the next
 abbrev pub judged : Rule → ℕ → List Numbered → Got Flaw (List ℕ) → Got Flaw (List ℕ)
 judged k l xs g =
-  unless NumberInRange l (outside (k .low) (k .end) xs)
-  (unless ListWithinLength l (excess (k .most) xs)
-  (unless ListAscends l (descent (k .ascending) xs) g))
+    unless NumberInRange l (outside (k .low) (k .end) xs)
+    (unless ListWithinLength l (excess (k .most) xs)
+    (unless ListAscends l (descent (k .ascending) xs) g))
 
 -- a way to write values of X and to read them
 pub record Format (X : Type 0) : Type 1 where
@@ -105,7 +105,8 @@ abbrev pub aList : List ℕ → Rule → Format (List ℕ)
 aList key k = record {
   Good = Allowed k;
   write = lineOf key;
-  read = λ l p bs. onLine (aLine true key l p bs) (λ xs m q rest. judged k l xs (got (values xs) m q rest)) }
+  read = λ l p bs. onLine (aLine true key l p bs) (λ xs m q rest. judged k l xs (got (values xs) m q rest));
+}
 
 -- a line with one number, of which the judge names the first question that it fails
 abbrev pub refused : {X : Type 0} → Option Question → ℕ → ℕ → Got Flaw X → Got Flaw X
@@ -120,7 +121,8 @@ abbrev pub aNumber : List ℕ → (ℕ → Option Question) → Format ℕ
 aNumber key judge = record {
   Good = λ n. (n ≤ 65535) × (judge n ≡ None);
   write = λ n. lineOf key (n ∷ []);
-  read = λ l p bs. onLine (aLine false key l p bs) (single judge l) }
+  read = λ l p bs. onLine (aLine false key l p bs) (single judge l);
+}
 
 -- the judge of a number that has only to be in its range
 abbrev pub ranged : ℕ → ℕ → ℕ → Option Question
@@ -135,7 +137,8 @@ abbrev pub both : {X Y : Type 0} → Format X → (X → Format Y) → Format (X
 both F G = record {
   Good = λ z. F .Good (z .0) × G (z .0) .Good (z .1);
   write = λ z. F .write (z .0) ++ G (z .0) .write (z .1);
-  read = λ l p bs. bind (F .read l p bs) (λ x m q cs. bind (G x .read m q cs) (λ y. got (x, y))) }
+  read = λ l p bs. bind (F .read l p bs) (λ x m q cs. bind (G x .read m q cs) (λ y. got (x, y)));
+}
 
 -- n blocks of one format
 abbrev pub GoodAll : {X : Type 0} → (X → Type 0) → ℕ → List X → Type 0

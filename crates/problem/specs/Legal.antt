@@ -30,21 +30,21 @@ taskList most tasks ns = leb (length ns) most && every (λ n. ltb n tasks) ns
 
 abbrev pub legalOperator : ℕ → OperatorData → Bool
 legalOperator facts o =
-  leb (o .shelf) 65535 && (factList 8 facts (o .yes) && (factList 8 facts (o .no) && (factList 8 facts (o .add) && factList 8 facts (o .del))))
+    leb (o .shelf) 65535 && (factList 8 facts (o .yes) && (factList 8 facts (o .no) && (factList 8 facts (o .add) && factList 8 facts (o .del))))
 
 -- ops operators, and tasks compound ones after them, one of which the method splits
 abbrev pub legalMethod : ℕ → ℕ → ℕ → MethodData → Bool
 legalMethod facts ops tasks m =
-  (leb ops (m .task) && ltb (m .task) (ops + tasks)) && (factList 8 facts (m .yes) && (factList 8 facts (m .no) && taskList 8 (ops + tasks) (m .sub)))
+    (leb ops (m .task) && ltb (m .task) (ops + tasks)) && (factList 8 facts (m .yes) && (factList 8 facts (m .no) && taskList 8 (ops + tasks) (m .sub)))
 
 abbrev pub legal : ProblemData → Bool
 legal p =
-  leb (p .number) 65535
-  && (between 1 256 (p .facts)
-  && (between 1 64 (length (p .operators))
-  && (leb (p .tasks) 64
-  && (leb (length (p .methods)) 128
-  && (factList 256 (p .facts) (p .start)
-  && (taskList 16 (length (p .operators) + p .tasks) (p .first)
-  && (every (legalOperator (p .facts)) (p .operators)
-  && every (legalMethod (p .facts) (length (p .operators)) (p .tasks)) (p .methods))))))))
+    leb (p .number) 65535
+    && (between 1 256 (p .facts)
+    && (between 1 64 (length (p .operators))
+    && (leb (p .tasks) 64
+    && (leb (length (p .methods)) 128
+    && (factList 256 (p .facts) (p .start)
+    && (taskList 16 (length (p .operators) + p .tasks) (p .first)
+    && (every (legalOperator (p .facts)) (p .operators)
+    && every (legalMethod (p .facts) (length (p .operators)) (p .tasks)) (p .methods))))))))

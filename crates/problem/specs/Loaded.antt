@@ -24,8 +24,14 @@ problemOf p = dataOf (p .number) (p .facts) (p .tasks) (p .start) (p .first) (p 
 -- a new problem: number 0, one fact, one operator with shelf 0 and empty lists, and nothing else
 abbrev pub newData : ProblemData
 newData = record {
-  number = 0; facts = 1; tasks = 0; start = []; first = [];
-  operators = record { shelf = 0; yes = []; no = []; add = []; del = [] } ∷ []; methods = [] }
+  number = 0;
+  facts = 1;
+  tasks = 0;
+  start = [];
+  first = [];
+  operators = record { shelf = 0; yes = []; no = []; add = []; del = [] } ∷ [];
+  methods = [];
+}
 
 -- the flaw that a fault tells of is the first one of the text; want of memory tells nothing of it
 abbrev pub Tells : {X : Type 0} → Result X Flaw → Option Flaw → Type 0

@@ -55,16 +55,17 @@ abbrev pub row : ℕ → ℕ → Format Row
 row methods ops = record {
   Good = rowGood methods ops;
   write = rowText;
-  read = λ l p bs. cond (isSome (after (codes "by") bs)) (bind (byLine methods .read l p bs) (λ m. got (By m))) (bind (doLine ops .read l p bs) (λ o. got (Do o))) }
+  read = λ l p bs. cond (isSome (after (codes "by") bs)) (bind (byLine methods .read l p bs) (λ m. got (By m))) (bind (doLine ops .read l p bs) (λ o. got (Do o)));
+}
 
 abbrev pub PlanLines : Type 0
 PlanLines = ℕ × (ℕ × List Row)
 
 abbrev pub planLines : ProblemData → ℕ → Format PlanLines
 planLines p room =
-  both (aNumber (codes "shop") (sameShop (p .number))) (λ _.
-  both (aNumber (codes "rows") (fitting room)) (λ n.
-  times n (row (length (p .methods)) (length (p .operators)))))
+    both (aNumber (codes "shop") (sameShop (p .number))) (λ _.
+    both (aNumber (codes "rows") (fitting room)) (λ n.
+    times n (row (length (p .methods)) (length (p .operators)))))
 
 abbrev pub planSplit : ProblemData → List Row → PlanLines
 planSplit p rows = (p .number, (length rows, rows))
@@ -109,8 +110,8 @@ Rows-loaded p text before (Err e) after = Tells (planLoads p (length before) tex
 -- a text loads exactly when it is the text of a plan of this problem, with its number, for which the slice has room, and then as that one
 abbrev pub Plan-exactly : ProblemData → ℕ → List ℕ → Type 0
 Plan-exactly p room text = (rows : List Row)
-  → (planLoads p room text ≡ Ok rows → (legalPlan p rows ≡ true) × (length rows ≤ room) × (planText p rows ≡ text))
-  × (legalPlan p rows ≡ true → length rows ≤ room → planText p rows ≡ text → planLoads p room text ≡ Ok rows)
+    → (planLoads p room text ≡ Ok rows → (legalPlan p rows ≡ true) × (length rows ≤ room) × (planText p rows ≡ text))
+    × (legalPlan p rows ≡ true → length rows ≤ room → planText p rows ≡ text → planLoads p room text ≡ Ok rows)
 
 -- question 4: the first row, counted on from i, that names no method or operator of the problem
 abbrev pub unknownAt : ℕ → ℕ → ℕ → List Row → Option ℕ

@@ -35,7 +35,7 @@ planRefusalOf planFault.Memory = None
 -- `fault=`, the subject, and the refusal's number, line and byte, with commas between them
 abbrev pub faultLine : List ℕ → Refusal → List ℕ
 faultLine subject f =
-  codes "fault=" ++ (subject ++ (codes "," ++ (decimal (numberOf (f .question)) ++ (codes "," ++ (decimal (f .place .line) ++ (codes "," ++ (decimal (f .place .byte) ++ (10 ∷ []))))))))
+    codes "fault=" ++ (subject ++ (codes "," ++ (decimal (numberOf (f .question)) ++ (codes "," ++ (decimal (f .place .line) ++ (codes "," ++ (decimal (f .place .byte) ++ (10 ∷ []))))))))
 
 abbrev pub faultBytes : FaultLine → List ℕ
 faultBytes f = faultLine (now (f .subject)) (f .refusal)
@@ -43,19 +43,19 @@ faultBytes f = faultLine (now (f .subject)) (f .refusal)
 -- what was loaded, line by line; the last two tell the length of the text, and 1 where the text written back is that text, else 0
 abbrev pub summaryLines : ℕ → ℕ → ℕ → ℕ → ℕ → ℕ → ℕ → Bool → List ℕ
 summaryLines number facts ops tasks methods first bytes same =
-  lineOf (codes "shop") (number ∷ [])
-  ++ (lineOf (codes "facts") (facts ∷ [])
-  ++ (lineOf (codes "ops") (ops ∷ [])
-  ++ (lineOf (codes "tasks") (tasks ∷ [])
-  ++ (lineOf (codes "methods") (methods ∷ [])
-  ++ (lineOf (codes "first") (first ∷ [])
-  ++ (lineOf (codes "bytes") (bytes ∷ [])
-  ++ lineOf (codes "same") (cond same 1 0 ∷ [])))))))
+    lineOf (codes "shop") (number ∷ [])
+    ++ (lineOf (codes "facts") (facts ∷ [])
+    ++ (lineOf (codes "ops") (ops ∷ [])
+    ++ (lineOf (codes "tasks") (tasks ∷ [])
+    ++ (lineOf (codes "methods") (methods ∷ [])
+    ++ (lineOf (codes "first") (first ∷ [])
+    ++ (lineOf (codes "bytes") (bytes ∷ [])
+    ++ lineOf (codes "same") (cond same 1 0 ∷ [])))))))
 
 abbrev pub summary : ProblemData → List ℕ → List ℕ → List ℕ
 summary p text back = summaryLines (p .number) (p .facts) (length (p .operators)) (p .tasks) (length (p .methods)) (length (p .first)) (length text) (sameBytes text back)
 
 abbrev pub summaryBytes : Summary → List ℕ
 summaryBytes s =
-  let p = now (s .problem) in
-  summaryLines (p .number) (p .facts) (vec-len (p .operators)) (p .tasks) (vec-len (p .methods)) (vec-len (p .first)) (s .bytes) (s .same)
+    let p = now (s .problem) in
+    summaryLines (p .number) (p .facts) (vec-len (p .operators)) (p .tasks) (vec-len (p .methods)) (vec-len (p .first)) (s .bytes) (s .same)

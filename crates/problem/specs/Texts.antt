@@ -18,13 +18,13 @@ methodBytes m = methodText (methodOf m)
 
 abbrev pub headBytes : Problem → List ℕ
 headBytes p =
-  lineOf (codes "shop") (p .number ∷ [])
-  ++ (lineOf (codes "facts") (p .facts ∷ [])
-  ++ (lineOf (codes "ops") (vec-len (p .operators) ∷ [])
-  ++ (lineOf (codes "tasks") (p .tasks ∷ [])
-  ++ (lineOf (codes "methods") (vec-len (p .methods) ∷ [])
-  ++ (lineOf (codes "start") (vec-items (p .start))
-  ++ lineOf (codes "first") (vec-items (p .first)))))))
+    lineOf (codes "shop") (p .number ∷ [])
+    ++ (lineOf (codes "facts") (p .facts ∷ [])
+    ++ (lineOf (codes "ops") (vec-len (p .operators) ∷ [])
+    ++ (lineOf (codes "tasks") (p .tasks ∷ [])
+    ++ (lineOf (codes "methods") (vec-len (p .methods) ∷ [])
+    ++ (lineOf (codes "start") (vec-items (p .start))
+    ++ lineOf (codes "first") (vec-items (p .first)))))))
 
 abbrev pub problemBytes : Problem → List ℕ
 problemBytes p = headBytes p ++ (each operatorBytes (vec-items (p .operators)) ++ each methodBytes (vec-items (p .methods)))

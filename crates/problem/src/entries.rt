@@ -20,7 +20,7 @@ pub struct Method {
 }
 
 // A row of a plan: the first open task is split by a method, or done as an operator.
-#[derive(Clone, Copy, Debug)]
+#[derive(Clone, Copy, Debug, PartialEq)]
 pub enum Row {
     By(u16),
     Do(u16),

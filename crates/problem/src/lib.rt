@@ -1,6 +1,6 @@
 // Ground total-order planning problems and plans as texts: loaded, and written back.
-mod entries;
 mod definition;
+mod entries;
 mod faults;
 mod lines;
 mod loading;
@@ -14,6 +14,8 @@ pub use definition::Problem;
 pub use entries::Method;
 pub use entries::Operator;
 pub use entries::Row;
+pub use entries::RowDebug;
+pub use entries::RowPartialEq;
 pub use faults::PlanFault;
 pub use faults::PlanFaultDebug;
 pub use faults::ProblemFault;

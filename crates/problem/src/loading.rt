@@ -9,7 +9,6 @@ ghost use Rattle.problem.specs.Files.{factRule, taskRule, head as headFormat, 
 ghost use Rattle.problem.specs.Reads.{Reads, flawOf};
 ghost use Rattle.problem.specs.Heads.{headOf, Finishes};
 ghost use Rattle.problem.specs.Loaded.{problemOf, newData, Read-whole, Filled, Loads-exactly, Back};
-use base::Question;
 use crate::definition::Problem;
 use crate::entries::Method;
 use crate::entries::Operator;
@@ -21,6 +20,7 @@ use crate::faults::Refusal;
 use crate::lines::list;
 use crate::lines::number;
 use crate::rule::Rule;
+use base::Question;
 use std::alloc::AllocError;
 use std::alloc::Global;
 use text::Reader;
@@ -29,14 +29,24 @@ use text::Reader;
 fn fact_rule(most: usize, facts: u16) -> Rule
     ensures { λ r. ⌜ r ≡ factRule most facts ⌝ }
 {
-    Rule { low: 0, end: facts as usize, most, ascending: true }
+    Rule {
+        low: 0,
+        end: facts as usize,
+        most,
+        ascending: true,
+    }
 }
 
 // At most `most` tasks below `tasks`.
 fn task_rule(most: usize, tasks: usize) -> Rule
     ensures { λ r. ⌜ r ≡ taskRule most tasks ⌝ }
 {
-    Rule { low: 0, end: tasks, most, ascending: false }
+    Rule {
+        low: 0,
+        end: tasks,
+        most,
+        ascending: false,
+    }
 }
 
 // What the lines at the head of a file hold: `ops` and `methods` tell how many blocks follow.
@@ -61,11 +71,28 @@ fn read_head(reader: &mut Reader<'_>, heap: Global) -> Result<Head, ProblemFault
     let tasks = number(reader, b"tasks", 0, 65)?;
     let methods = number(reader, b"methods", 0, 129)?;
     let start = list(reader, heap, b"start", fact_rule(256, facts))?;
-    let first = list(reader, heap, b"first", task_rule(16, ops as usize + tasks as usize))?;
-    Ok(Head { number: shop, facts, ops, tasks, methods, start, first })
+    let first = list(
+        reader,
+        heap,
+        b"first",
+        task_rule(16, ops as usize + tasks as usize),
+    )?;
+    Ok(Head {
+        number: shop,
+        facts,
+        ops,
+        tasks,
+        methods,
+        start,
+        first,
+    })
 }
 
-fn read_operator(reader: &mut Reader<'_>, heap: Global, facts: u16) -> Result<Operator, ProblemFault>
+fn read_operator(
+    reader: &mut Reader<'_>,
+    heap: Global,
+    facts: u16,
+) -> Result<Operator, ProblemFault>
     ensures reads { λ r. ⌜ Reads flawOf (operatorFormat facts .read (now (reader .entry) .line) (now (reader .entry) .byte) (left (now (reader .entry)))) operatorOf r (now (reader .exit)) ⌝ }
     ensures text { λ _. ⌜ now (now (reader .exit) .text) ≡ now (now (reader .entry) .text) ⌝ }
 {
@@ -75,10 +102,21 @@ fn read_operator(reader: &mut Reader<'_>, heap: Global, facts: u16) -> Result<Op
     let no = list(reader, heap, b"no", rule)?;
     let add = list(reader, heap, b"add", rule)?;
     let del = list(reader, heap, b"del", rule)?;
-    Ok(Operator { shelf, yes, no, add, del })
+    Ok(Operator {
+        shelf,
+        yes,
+        no,
+        add,
+        del,
+    })
 }
 
-fn read_operators(reader: &mut Reader<'_>, heap: Global, n: u16, facts: u16) -> Result<Vec<Operator>, ProblemFault>
+fn read_operators(
+    reader: &mut Reader<'_>,
+    heap: Global,
+    n: u16,
+    facts: u16,
+) -> Result<Vec<Operator>, ProblemFault>
     ensures reads { λ r. ⌜ Reads flawOf (times n (operatorFormat facts) .read (now (reader .entry) .line) (now (reader .entry) .byte) (left (now (reader .entry)))) operatorsOf r (now (reader .exit)) ⌝ }
     ensures text { λ _. ⌜ now (now (reader .exit) .text) ≡ now (now (reader .entry) .text) ⌝ }
 {
@@ -90,7 +128,13 @@ fn read_operators(reader: &mut Reader<'_>, heap: Global, n: u16, facts: u16) -> 
     Ok(all)
 }
 
-fn read_method(reader: &mut Reader<'_>, heap: Global, facts: u16, ops: u16, tasks: u16) -> Result<Method, ProblemFault>
+fn read_method(
+    reader: &mut Reader<'_>,
+    heap: Global,
+    facts: u16,
+    ops: u16,
+    tasks: u16,
+) -> Result<Method, ProblemFault>
     ensures reads { λ r. ⌜ Reads flawOf (methodFormat facts ops tasks .read (now (reader .entry) .line) (now (reader .entry) .byte) (left (now (reader .entry)))) methodOf r (now (reader .exit)) ⌝ }
     ensures text { λ _. ⌜ now (now (reader .exit) .text) ≡ now (now (reader .entry) .text) ⌝ }
 {
@@ -103,7 +147,14 @@ fn read_method(reader: &mut Reader<'_>, heap: Global, facts: u16, ops: u16, task
     Ok(Method { task, yes, no, sub })
 }
 
-fn read_methods(reader: &mut Reader<'_>, heap: Global, n: u16, facts: u16, ops: u16, tasks: u16) -> Result<Vec<Method>, ProblemFault>
+fn read_methods(
+    reader: &mut Reader<'_>,
+    heap: Global,
+    n: u16,
+    facts: u16,
+    ops: u16,
+    tasks: u16,
+) -> Result<Vec<Method>, ProblemFault>
     ensures reads { λ r. ⌜ Reads flawOf (times n (methodFormat facts ops tasks) .read (now (reader .entry) .line) (now (reader .entry) .byte) (left (now (reader .entry)))) methodsOf r (now (reader .exit)) ⌝ }
     ensures text { λ _. ⌜ now (now (reader .exit) .text) ≡ now (now (reader .entry) .text) ⌝ }
 {
@@ -120,7 +171,10 @@ pub(crate) fn finish(reader: &Reader<'_>) -> Result<(), Refusal>
     ensures { λ r. ⌜ Finishes (now (reader .entry)) r ⌝ }
 {
     if !reader.is_done() {
-        return Err(Refusal { question: Question::FileEnds, place: reader.place() });
+        return Err(Refusal {
+            question: Question::FileEnds,
+            place: reader.place(),
+        });
     }
     Ok(())
 }
@@ -131,10 +185,33 @@ fn read_problem(heap: Global, text: &[u8]) -> Result<Problem, ProblemFault>
     let mut reader = Reader::new(text);
     let head = read_head(&mut reader, heap)?;
     let operators = read_operators(&mut reader, heap, head.ops, head.facts)?;
-    let methods = read_methods(&mut reader, heap, head.methods, head.facts, head.ops, head.tasks)?;
+    let methods = read_methods(
+        &mut reader,
+        heap,
+        head.methods,
+        head.facts,
+        head.ops,
+        head.tasks,
+    )?;
     finish(&reader)?;
-    let Head { number, facts, ops: _, tasks, methods: _, start, first } = head;
-    Ok(Problem { number, facts, tasks, start, first, operators, methods })
+    let Head {
+        number,
+        facts,
+        ops: _,
+        tasks,
+        methods: _,
+        start,
+        first,
+    } = head;
+    Ok(Problem {
+        number,
+        facts,
+        tasks,
+        start,
+        first,
+        operators,
+        methods,
+    })
 }
 
 impl Problem {
@@ -143,12 +220,26 @@ impl Problem {
         ensures { λ r. ⌜ made r (λ p. problemOf p ≡ newData) ⌝ }
     {
         let mut operators = Vec::new(heap);
-        let none = Operator { shelf: 0, yes: Vec::new(heap), no: Vec::new(heap), add: Vec::new(heap), del: Vec::new(heap) };
+        let none = Operator {
+            shelf: 0,
+            yes: Vec::new(heap),
+            no: Vec::new(heap),
+            add: Vec::new(heap),
+            del: Vec::new(heap),
+        };
         operators.push(none)?;
         let start = Vec::new(heap);
         let first = Vec::new(heap);
         let methods = Vec::new(heap);
-        Ok(Problem { number: 0, facts: 1, tasks: 0, start, first, operators, methods })
+        Ok(Problem {
+            number: 0,
+            facts: 1,
+            tasks: 0,
+            start,
+            first,
+            operators,
+            methods,
+        })
     }
 
     // Fills the problem with what the text means, or says what is wrong and leaves the problem as it was.

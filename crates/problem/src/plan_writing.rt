@@ -1,12 +1,15 @@
 // Writes a plan as its text.
 ghost use mathlib.Core.Path.{_≡_};
+ghost use Prim.Native.Nat.{_≤_};
+ghost use lib.ListN.{length};
+ghost use Rattle.std.specs.Vec.{made};
 ghost use Rattle.problem.specs.Loaded.{problemOf};
 ghost use Rattle.problem.specs.Plans.{rowText, planText, planRefusal, knownAmong, unknownAt, Plan-written, Plan-loads-back};
 ghost use Rattle.problem.specs.PlanBytes.{planBytes};
-use base::Question;
 use crate::definition::Problem;
 use crate::entries::Row;
 use crate::faults::RowFault;
+use base::Question;
 use text::Render;
 use text::Sink;
 use text::number_line;
@@ -66,15 +69,28 @@ impl Problem {
     // Writes the plan's text at the start of the bytes and answers its length; a refusal alters nothing.
     pub fn write_plan(&self, rows: &[Row], bytes: &mut [u8]) -> Result<usize, RowFault>
         ensures writes { λ r. ⌜ Plan-written (planText (problemOf (now (self .entry))) (now (rows .entry))) (planRefusal (problemOf (now (self .entry))) (now (rows .entry))) (now (bytes .entry)) (now (bytes .exit)) r ⌝ }
+        ensures within { λ r. ⌜ made r (λ n. n ≤ length (now (bytes .entry))) ⌝ }
         ensures loads_back { λ r. ⌜ Plan-loads-back (problemOf (now (self .entry))) (now (rows .entry)) (now (bytes .exit)) r ⌝ }
     {
         if rows.len() > 2000 {
-            return Err(RowFault { question: Question::WithinRowLimit, row: 0 });
+            return Err(RowFault {
+                question: Question::WithinRowLimit,
+                row: 0,
+            });
         }
         if let Some(row) = first_unknown(rows, self.methods.len(), self.operators.len()) {
-            return Err(RowFault { question: Question::NumberInRange, row });
+            return Err(RowFault {
+                question: Question::NumberInRange,
+                row,
+            });
         }
-        match write(bytes, &PlanLines { number: self.number, rows }) {
+        match write(
+            bytes,
+            &PlanLines {
+                number: self.number,
+                rows,
+            },
+        ) {
             Ok(count) => Ok(count),
             Err(question) => Err(RowFault { question, row: 0 }),
         }

@@ -10,8 +10,6 @@ ghost use lib.ListN.{length, drop};
 ghost use mathlib.Core.List.{_++_};
 ghost use Prim.Native.Nat.{_≤_};
 ghost use Rattle.problem.specs.Loaded.{problemOf};
-use base::Question;
-use base::store;
 use crate::definition::Problem;
 use crate::entries::Row;
 use crate::faults::PlanFault;
@@ -22,6 +20,8 @@ use crate::faults::PlanFaultFromTextFault;
 use crate::faults::Refusal;
 use crate::lines::ranged;
 use crate::loading::finish;
+use base::Question;
+use base::store;
 use std::alloc::Global;
 use text::Place;
 use text::Reader;
@@ -35,7 +35,10 @@ fn read_shop(reader: &mut Reader<'_>, number: u16) -> Result<u16, PlanFault>
     let n = reader.number(b"shop")?;
     let value = ranged(n, line, 0, 65536)?;
     if value != number {
-        return Err(Refusal { question: Question::SameProblem, place: Place { line, byte: n.byte } }.into());
+        return Err(Refusal {
+            question: Question::SameProblem,
+            place: Place { line, byte: n.byte },
+        }.into());
     }
     Ok(value)
 }
@@ -49,7 +52,10 @@ fn read_count(reader: &mut Reader<'_>, room: usize) -> Result<u16, PlanFault>
     let n = reader.number(b"rows")?;
     let value = ranged(n, line, 0, 2001)?;
     if value as usize > room {
-        return Err(Refusal { question: Question::SliceLongEnough, place: Place { line, byte: n.byte } }.into());
+        return Err(Refusal {
+            question: Question::SliceLongEnough,
+            place: Place { line, byte: n.byte },
+        }.into());
     }
     Ok(value)
 }
@@ -77,7 +83,13 @@ fn read_row(reader: &mut Reader<'_>, methods: usize, ops: usize) -> Result<Row, 
     Ok(Row::Do(operator))
 }
 
-fn read_rows(reader: &mut Reader<'_>, heap: Global, n: u16, methods: usize, ops: usize) -> Result<Vec<Row>, PlanFault>
+fn read_rows(
+    reader: &mut Reader<'_>,
+    heap: Global,
+    n: u16,
+    methods: usize,
+    ops: usize,
+) -> Result<Vec<Row>, PlanFault>
     ensures reads { λ r. ⌜ Reads planFlawOf (times n (rowFormat methods ops) .read (now (reader .entry) .line) (now (reader .entry) .byte) (left (now (reader .entry)))) vec-items r (now (reader .exit)) ⌝ }
     ensures text { λ _. ⌜ now (now (reader .exit) .text) ≡ now (now (reader .entry) .text) ⌝ }
 {
@@ -89,13 +101,24 @@ fn read_rows(reader: &mut Reader<'_>, heap: Global, n: u16, methods: usize, ops:
     Ok(all)
 }
 
-fn read_plan(problem: &Problem, heap: Global, text: &[u8], room: usize) -> Result<Vec<Row>, PlanFault>
+fn read_plan(
+    problem: &Problem,
+    heap: Global,
+    text: &[u8],
+    room: usize,
+) -> Result<Vec<Row>, PlanFault>
     ensures { λ r. ⌜ Rows-read (problemOf (now (problem .entry))) room (now (text .entry)) r ⌝ }
 {
     let mut reader = Reader::new(text);
     read_shop(&mut reader, problem.number)?;
     let count = read_count(&mut reader, room)?;
-    let rows = read_rows(&mut reader, heap, count, problem.methods.len(), problem.operators.len())?;
+    let rows = read_rows(
+        &mut reader,
+        heap,
+        count,
+        problem.methods.len(),
+        problem.operators.len(),
+    )?;
     finish(&reader)?;
     Ok(rows)
 }

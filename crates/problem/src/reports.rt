@@ -4,11 +4,11 @@ ghost use mathlib.Core.Path.{_≡_};
 ghost use Rattle.text.specs.Rendered.{Written};
 ghost use Rattle.problem.specs.Loaded.{problemOf};
 ghost use Rattle.problem.specs.Reports.{refusalOf, planRefusalOf, faultLine, faultBytes, summary, summaryBytes};
-use base::Question;
 use crate::definition::Problem;
 use crate::faults::PlanFault;
 use crate::faults::ProblemFault;
 use crate::faults::Refusal;
+use base::Question;
 use text::Render;
 use text::Sink;
 use text::number_line;
@@ -22,7 +22,10 @@ impl ProblemFault {
         ensures { λ r. ⌜ r ≡ refusalOf self ⌝ }
     {
         match self {
-            ProblemFault::Text(f) => Some(Refusal { question: f.question, place: f.place }),
+            ProblemFault::Text(f) => Some(Refusal {
+                question: f.question,
+                place: f.place,
+            }),
             ProblemFault::Entry(f) => Some(f),
             ProblemFault::Memory => None,
         }
@@ -35,7 +38,10 @@ impl PlanFault {
         ensures { λ r. ⌜ r ≡ planRefusalOf self ⌝ }
     {
         match self {
-            PlanFault::Text(f) => Some(Refusal { question: f.question, place: f.place }),
+            PlanFault::Text(f) => Some(Refusal {
+                question: f.question,
+                place: f.place,
+            }),
             PlanFault::Entry(f) => Some(f),
             PlanFault::Memory => None,
         }
@@ -71,7 +77,13 @@ impl Refusal {
     pub fn write_line(self, subject: &[u8], bytes: &mut [u8]) -> Result<usize, Question>
         ensures { λ r. ⌜ Written (faultLine (now (subject .entry)) self) (now (bytes .entry)) (now (bytes .exit)) r ⌝ }
     {
-        write(bytes, &FaultLine { subject, refusal: self })
+        write(
+            bytes,
+            &FaultLine {
+                subject,
+                refusal: self,
+            },
+        )
     }
 }
 
@@ -101,10 +113,22 @@ impl<'a> Render for Summary<'a> as SummaryRender {
 impl Problem {
     // Writes the problem's number and counts, the length of the text it was loaded from, and whether `back`, the text
     // it was written back as, is the same; where the bytes are too few, refuses and alters none.
-    pub fn write_summary(&self, text: &[u8], back: &[u8], bytes: &mut [u8]) -> Result<usize, Question>
+    pub fn write_summary(
+        &self,
+        text: &[u8],
+        back: &[u8],
+        bytes: &mut [u8],
+    ) -> Result<usize, Question>
         ensures { λ r. ⌜ Written (summary (problemOf (now (self .entry))) (now (text .entry)) (now (back .entry))) (now (bytes .entry)) (now (bytes .exit)) r ⌝ }
     {
         let same = text == back;
-        write(bytes, &Summary { problem: self, bytes: text.len(), same })
+        write(
+            bytes,
+            &Summary {
+                problem: self,
+                bytes: text.len(),
+                same,
+            },
+        )
     }
 }

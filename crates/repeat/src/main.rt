@@ -38,7 +38,10 @@ fn run(rt: &LibcRuntime) -> Result<(), AnyError> {
     let mut words = env::args(rt)?;
     let _program = words.next();
     let mode = words.next().ok_or("a word is missing: load or write")?;
-    let times = words.next().ok_or("a word is missing: how often")?.parse::<u32>()?;
+    let times = words
+        .next()
+        .ok_or("a word is missing: how often")?
+        .parse::<u32>()?;
     let text = first_bytes(rt.alloc(), &mut rt.stdin())?;
     let bytes = match mode.as_str() {
         "load" => load(rt, text.as_slice(), times)?,

@@ -11,6 +11,6 @@ use Rattle.problem.proofs.loading.read_methods.Given as given
 -- the blocks so far stand before what the rest is read as
 abbrev pub Inv-loop-i : given.InvT-loop-i
 Inv-loop-i l =
-  (times (l .n) (method (l .facts) (l .ops) (l .tasks)) .read (l .entry .reader .line) (l .entry .reader .byte) (left (l .entry .reader))
+    (times (l .n) (method (l .facts) (l .ops) (l .tasks)) .read (l .entry .reader .line) (l .entry .reader .byte) (left (l .entry .reader))
     ≡ ahead (methodsOf (l .all)) (readAll (method (l .facts) (l .ops) (l .tasks) .read) (l .n - l .-i) (l .reader .line) (l .reader .byte) (left (l .reader))))
-  × (now (l .reader .text) ≡ now (l .entry .reader .text))
+    × (now (l .reader .text) ≡ now (l .entry .reader .text))

@@ -11,6 +11,6 @@ use Rattle.problem.proofs.loading.read_operators.Given as given
 -- the blocks so far stand before what the rest is read as
 abbrev pub Inv-loop-i : given.InvT-loop-i
 Inv-loop-i l =
-  (times (l .n) (operator (l .facts)) .read (l .entry .reader .line) (l .entry .reader .byte) (left (l .entry .reader))
+    (times (l .n) (operator (l .facts)) .read (l .entry .reader .line) (l .entry .reader .byte) (left (l .entry .reader))
     ≡ ahead (operatorsOf (l .all)) (readAll (operator (l .facts) .read) (l .n - l .-i) (l .reader .line) (l .reader .byte) (left (l .reader))))
-  × (now (l .reader .text) ≡ now (l .entry .reader .text))
+    × (now (l .reader .text) ≡ now (l .entry .reader .text))

@@ -13,22 +13,22 @@ use Rattle.problem.proofs.plans.read_plan.Needs as need
 pub returns-in-Break-read-shop : need.returns-in-Break-read-shop
 unfolding problemOf
 returns-in-Break-read-shop c =
-  let p = err-from-errBy (c .from-residual .result) (c .from-residual .ensures .1) in
-  simp (p .1, p .2) (shop-fails (problemOf (c .args .problem .now)) (c .args .room) (c .new-reader .result) (c .args .text .now) (c .new-reader .ensures .start) (c .new-reader .ensures .text)
+    let p = err-from-errBy (c .from-residual .result) (c .from-residual .ensures .1) in
+    simp (p .1, p .2) (shop-fails (problemOf (c .args .problem .now)) (c .args .room) (c .new-reader .result) (c .args .text .now) (c .new-reader .ensures .start) (c .new-reader .ensures .text)
     (planFlawOf (c .in-Break-read-shop .field-0 .0)) (c .in-Break-read-shop .ensures tt .reads))
 
 pub returns-in-Break-count : need.returns-in-Break-count
 unfolding problemOf
 returns-in-Break-count c =
-  let p = err-from-errBy (c .from-residual-in-Break-count .result) (c .from-residual-in-Break-count .ensures .1) in
-  simp (p .1, p .2) (count-fails (problemOf (c .args .problem .now)) (c .args .room) (c .new-reader .result) (c .args .text .now) (c .new-reader .ensures .start) (c .new-reader .ensures .text)
+    let p = err-from-errBy (c .from-residual-in-Break-count .result) (c .from-residual-in-Break-count .ensures .1) in
+    simp (p .1, p .2) (count-fails (problemOf (c .args .problem .now)) (c .args .room) (c .new-reader .result) (c .args .text .now) (c .new-reader .ensures .start) (c .new-reader .ensures .text)
     _ (c .read-shop .last .reader) (c .in-Continue-read-shop .ensures tt .reads) (planFlawOf (c .in-Break-count .field-0 .0)) (c .in-Break-count .ensures tt .reads))
 
 pub returns-in-Break-rows : need.returns-in-Break-rows
 unfolding problemOf
 returns-in-Break-rows c =
-  let p = err-from-errBy (c .from-residual-in-Break-rows .result) (c .from-residual-in-Break-rows .ensures .1) in
-  simp (p .1, p .2) (rows-fail (problemOf (c .args .problem .now)) (c .args .room) (c .new-reader .result) (c .args .text .now) (c .new-reader .ensures .start) (c .new-reader .ensures .text)
+    let p = err-from-errBy (c .from-residual-in-Break-rows .result) (c .from-residual-in-Break-rows .ensures .1) in
+    simp (p .1, p .2) (rows-fail (problemOf (c .args .problem .now)) (c .args .room) (c .new-reader .result) (c .args .text .now) (c .new-reader .ensures .start) (c .new-reader .ensures .text)
     _ (c .read-shop .last .reader) (c .in-Continue-read-shop .ensures tt .reads) _ (c .read-count .last .reader) (c .in-Continue-count .ensures tt .reads)
     (c .len .result) (c .len-2 .result) (c .len .ensures ∙ methods-are (c .args .problem .now)) (c .len-2 .ensures ∙ operators-are (c .args .problem .now))
     (planFlawOf (c .in-Break-rows .field-0 .0)) (c .in-Break-rows .ensures tt .reads))
@@ -36,9 +36,9 @@ returns-in-Break-rows c =
 pub returns-in-Break-finish : need.returns-in-Break-finish
 unfolding problemOf
 returns-in-Break-finish c =
-  let p = err-from-errBy (c .from-residual-in-Break-finish .result) (c .from-residual-in-Break-finish .ensures .1) in
-  let f = c .in-Break-finish .ensures tt in
-  simp (p .1, p .2) (plan-read (problemOf (c .args .problem .now)) (c .args .room) (c .new-reader .result) (c .args .text .now) (c .new-reader .ensures .start) (c .new-reader .ensures .text)
+    let p = err-from-errBy (c .from-residual-in-Break-finish .result) (c .from-residual-in-Break-finish .ensures .1) in
+    let f = c .in-Break-finish .ensures tt in
+    simp (p .1, p .2) (plan-read (problemOf (c .args .problem .now)) (c .args .room) (c .new-reader .result) (c .args .text .now) (c .new-reader .ensures .start) (c .new-reader .ensures .text)
     _ (c .read-shop .last .reader) (c .in-Continue-read-shop .ensures tt .reads) _ (c .read-count .last .reader) (c .in-Continue-count .ensures tt .reads)
     (c .len .result) (c .len-2 .result) (c .len .ensures ∙ methods-are (c .args .problem .now)) (c .len-2 .ensures ∙ operators-are (c .args .problem .now))
     _ (c .read-rows .last .reader) (c .in-Continue-rows .ensures tt .reads)
@@ -47,7 +47,7 @@ returns-in-Break-finish c =
 pub returns : need.returns
 unfolding problemOf
 returns c =
-  plan-read (problemOf (c .args .problem .now)) (c .args .room) (c .new-reader .result) (c .args .text .now) (c .new-reader .ensures .start) (c .new-reader .ensures .text)
+    plan-read (problemOf (c .args .problem .now)) (c .args .room) (c .new-reader .result) (c .args .text .now) (c .new-reader .ensures .start) (c .new-reader .ensures .text)
     _ (c .read-shop .last .reader) (c .in-Continue-read-shop .ensures tt .reads) _ (c .read-count .last .reader) (c .in-Continue-count .ensures tt .reads)
     (c .len .result) (c .len-2 .result) (c .len .ensures ∙ methods-are (c .args .problem .now)) (c .len-2 .ensures ∙ operators-are (c .args .problem .now))
     _ (c .read-rows .last .reader) (c .in-Continue-rows .ensures tt .reads)

@@ -13,10 +13,10 @@ exactly text p = ((λ e. file-back text p e), (λ l t. ap loads (sym t) ∙ file
 
 pub returns-in-Break-loaded : need.returns-in-Break-loaded
 returns-in-Break-loaded c =
-  let p = err-from-errBy (c .from-residual .result) (c .from-residual .ensures .1) in
-  simp (p .1, p .2) record { fills = (c .in-Break-loaded .ensures tt, refl); exactly = exactly (c .args .text .now); back = tt }
+    let p = err-from-errBy (c .from-residual .result) (c .from-residual .ensures .1) in
+    simp (p .1, p .2) record { fills = (c .in-Break-loaded .ensures tt, refl); exactly = exactly (c .args .text .now); back = tt }
 
 pub returns : need.returns
 returns c =
-  let e = c .in-Continue-loaded .ensures tt in
-  record { fills = e; exactly = exactly (c .args .text .now); back = file-back (c .args .text .now) _ e .1 }
+    let e = c .in-Continue-loaded .ensures tt in
+    record { fills = e; exactly = exactly (c .args .text .now); back = file-back (c .args .text .now) _ e .1 }

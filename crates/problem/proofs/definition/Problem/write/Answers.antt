@@ -10,6 +10,6 @@ use Rattle.problem.proofs.definition.Problem.write.Needs as need
 
 pub returns : need.returns
 returns c =
-  let p = c .args .self .now in
-  let w : Written (textOf (problemOf p)) (c .args .bytes .now) (c .write .last .bytes) (c .write .result) = subst (λ (t : List ℕ). Written t (c .args .bytes .now) (c .write .last .bytes) (c .write .result)) (bytes-are p) (c .write .ensures) in
-  record { writes = w; loads-back = written-back p (c .args .bytes .now) (c .write .last .bytes) (c .write .result) w }
+    let p = c .args .self .now in
+    let w : Written (textOf (problemOf p)) (c .args .bytes .now) (c .write .last .bytes) (c .write .result) = subst (λ (t : List ℕ). Written t (c .args .bytes .now) (c .write .last .bytes) (c .write .result)) (bytes-are p) (c .write .ensures) in
+    record { writes = w; loads-back = written-back p (c .args .bytes .now) (c .write .last .bytes) (c .write .result) w }

@@ -13,5 +13,5 @@ returns g c =
     fed-append takes (c .args .sink .now) (headBytes p) (c .head-lines .last .sink) (each operatorBytes (vec-items (p .operators)) ++ each methodBytes (vec-items (p .methods))) (c .put-all-2 .last .sink)
     (c .head-lines .ensures)
     (fed-append takes (c .head-lines .last .sink) (each operatorBytes (vec-items (p .operators))) (c .put-all .last .sink) (each methodBytes (vec-items (p .methods))) (c .put-all-2 .last .sink)
-      (fed-is takes _ _ _ _ (ap (each operatorBytes) (c .as-slice .ensures .value)) (c .put-all .ensures .alone))
-      (fed-is takes _ _ _ _ (ap (each methodBytes) (c .as-slice-2 .ensures .value)) (c .put-all-2 .ensures .alone)))
+    (fed-is takes _ _ _ _ (ap (each operatorBytes) (c .as-slice .ensures .value)) (c .put-all .ensures .alone))
+    (fed-is takes _ _ _ _ (ap (each methodBytes) (c .as-slice-2 .ensures .value)) (c .put-all-2 .ensures .alone)))
