@@ -1,5 +1,6 @@
 // Loads the problem file on standard input, and prints what it holds or what is wrong with it.
 use input::first_bytes;
+use problem::LONGEST;
 use problem::Problem;
 use problem::ProblemFault;
 use std::error::AnyError;
@@ -23,7 +24,7 @@ fn print_fault(rt: &LibcRuntime, fault: ProblemFault) -> Result<(), AnyError> {
 }
 
 fn print_summary(rt: &LibcRuntime, problem: &Problem, text: &[u8]) -> Result<(), AnyError> {
-    let mut back = vec![in rt.alloc(); 0u8; 65536]?;
+    let mut back = vec![in rt.alloc(); 0u8; LONGEST]?;
     let Ok(n) = problem.write(&mut back) else {
         return Err("the text is too long".into());
     };

@@ -25,7 +25,7 @@ in-range low end n e = ⊎-elim
 pub ranged-none : (low end n : ℕ) → low ≤ n → n < end → ranged low end n ≡ None
 ranged-none low end n a b = cond-true (inside low end n) _ _ (and-from (leb low n) (ltb n end) (le-leb low n a) (lt-ltb n end b))
 
-each-below : (end : ℕ) (ns : List ℕ) → every (λ n. ltb n end) ns ≡ true → Each (λ n. (0 ≤ n) × (n < end)) ns
+pub each-below : (end : ℕ) (ns : List ℕ) → every (λ n. ltb n end) ns ≡ true → Each (λ n. (0 ≤ n) × (n < end)) ns
 each-below end [] e = tt
 each-below end (n ∷ ns) e = let p = and-parts (ltb n end) (every (λ n. ltb n end) ns) e in ((omega arith, ltb-true n end (p .0)), each-below end ns (p .1))
 
@@ -37,7 +37,7 @@ each-small : (end : ℕ) (ns : List ℕ) → end ≤ 65536 → Each (λ n. (0 �
 each-small end [] s h = tt
 each-small end (n ∷ ns) s h = (let l : n < end = h .0 .1 in omega arith, each-small end ns s (h .1))
 
-rising : (ns : List ℕ) → rises ns ≡ true → Rising ns
+pub rising : (ns : List ℕ) → rises ns ≡ true → Rising ns
 rising [] e = tt
 rising (n ∷ []) e = tt
 rising (n ∷ m ∷ ns) e = let p = and-parts (ltb n m) (rises (m ∷ ns)) e in (ltb-true n m (p .0), rising (m ∷ ns) (p .1))

@@ -2,6 +2,7 @@ pub mod Laws
 pub mod LineLaws
 pub mod Entering
 pub mod Legality
+pub mod Lengths
 pub mod FileLaws
 pub mod Turns
 pub mod FileReading

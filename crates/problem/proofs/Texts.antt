@@ -2,10 +2,12 @@
 use mathlib.Core.Path.{_≡_, refl, sym, ap, _∙_, subst}
 use mathlib.Core.Bool.{true}
 use mathlib.Core.List.{List, [], _∷_, _++_, map}
-use Prim.Native.Nat.{ℕ}
+use Prim.Native.Nat.{ℕ, _≤_, _<_}
+use native.Mathlib.Omega.{arith}
 use lib.Chars.{codes}
 use lib.ListN.{length, take, drop}
 use Rattle.std.specs.Of.Vec.{vec-items, vec-len}
+use Rattle.std.specs.Results.{isOk}
 use Rattle.std.specs.declared.result.Result.{Result}
 use Rattle.std.specs.declared.result.Result.the-variants.{Ok, Err}
 use Rattle.std.proofs.shelf.Lists.{length-map, take-at}
@@ -19,6 +21,7 @@ use Rattle.problem.specs.Legal.{legal}
 use Rattle.problem.specs.Loaded.{problemOf, Loads-back}
 use Rattle.problem.specs.Texts.{headBytes, problemBytes}
 use Rattle.problem.proofs.FileLaws.{file-there}
+use Rattle.problem.proofs.Lengths.{text-length}
 
 each-map : {X Y : Type 0} (w : Y → List ℕ) (f : X → Y) (xs : List X) → each (λ x. w (f x)) xs ≡ each w (map f xs)
 each-map w f [] = refl
@@ -58,3 +61,10 @@ at-start text before after n e a = ap (take n) a ∙ take-at text (drop n before
 pub written-back : (p : Problem) (before after : List ℕ) (r : Result ℕ Question) → Written (textOf (problemOf p)) before after r → Loads-back (problemOf p) after r
 written-back p before after (Ok n) w = ap loads (at-start (textOf (problemOf p)) before after n (w .0) (w .2)) ∙ file-there (problemOf p) (keeps p)
 written-back p before after (Err q) w = tt
+
+pub always-fits : (p : Problem) (before after : List ℕ) (r : Result ℕ Question) → Written (textOf (problemOf p)) before after r → 25679 ≤ length before → isOk r ≡ true
+always-fits p before after (Ok n) w h = refl
+always-fits p before after (Err q) w h =
+    let l : length (textOf (problemOf p)) ≤ 25679 = text-length (problemOf p) (keeps p) in
+    let k : length before < length (textOf (problemOf p)) = w .1 in
+    absurd (omega arith)

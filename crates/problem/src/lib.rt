@@ -24,3 +24,4 @@ pub use faults::Refusal;
 pub use faults::RefusalDebug;
 pub use faults::RowFault;
 pub use faults::RowFaultDebug;
+pub use writing::LONGEST;

@@ -1,4 +1,9 @@
 // Writes a problem as its file.
+ghost use mathlib.Core.Bool.{true};
+ghost use mathlib.Core.Path.{_≡_};
+ghost use Prim.Native.Nat.{_≤_};
+ghost use lib.ListN.{length};
+ghost use Rattle.std.specs.Results.{isOk};
 ghost use Rattle.text.specs.Fed.{Fed};
 ghost use Rattle.text.specs.Rendered.{Written};
 ghost use Rattle.problem.specs.Files.{textOf};
@@ -60,11 +65,15 @@ pub impl Render for Problem as ProblemRender {
     }
 }
 
+// No problem's text is longer.
+pub const LONGEST: usize = 25679;
+
 impl Problem {
     // Writes the problem's text at the start of the bytes and answers its length; where they are too few, refuses and
     // alters none.
     pub fn write(&self, bytes: &mut [u8]) -> Result<usize, Question>
         ensures writes { λ r. ⌜ Written (textOf (problemOf (now (self .entry)))) (now (bytes .entry)) (now (bytes .exit)) r ⌝ }
+        ensures never_longer { λ r. ⌜ (25679 ≤ length (now (bytes .entry)) → isOk r ≡ true) ⌝ }
         ensures loads_back { λ r. ⌜ Loads-back (problemOf (now (self .entry))) (now (bytes .exit)) r ⌝ }
     {
         write(bytes, self)

@@ -1,5 +1,6 @@
 // Loads or writes the problem on standard input many times over, so that it can be timed. The words: `load` or `write`, and how often.
 use input::first_bytes;
+use problem::LONGEST;
 use problem::Problem;
 use std::env;
 use std::error::AnyError;
@@ -23,7 +24,7 @@ fn write(rt: &LibcRuntime, text: &[u8], times: u32) -> Result<u64, AnyError> {
     let Ok(()) = problem.load(rt.alloc(), text) else {
         return Err("the text is no problem file".into());
     };
-    let mut back = vec![in rt.alloc(); 0u8; 65536]?;
+    let mut back = vec![in rt.alloc(); 0u8; LONGEST]?;
     let mut bytes = 0u64;
     for _ in 0..times {
         let Ok(n) = problem.write(&mut back) else {
