@@ -3,17 +3,18 @@ use mathlib.Core.Path.{_≡_, refl, sym, ap, _∙_}
 use mathlib.Core.Bool.{true, false}
 use mathlib.Core.List.{List, [], _∷_}
 use Prim.Native.Nat.{ℕ}
-use native.Mathlib.Omega.{arith}
 use denote.Ref.{now}
 use lib.ListN.{drop}
 use Rattle.std.specs.declared.option.Option.{Option}
 use Rattle.std.specs.declared.option.Option.the-variants.{Some, None}
 use Rattle.std.specs.declared.result.Result.{Result}
 use Rattle.std.specs.declared.result.Result.the-variants.{Ok, Err}
+use Rattle.std.proofs.shelf.Lists.{drop-all, drop-more}
+use Rattle.std.proofs.shelf.Tests.{leb-true, leb-false}
 use Rattle.base.specs.declared.question.Question.the-variants.{FileEnds}
 use Rattle.text.specs.declared.cursor.Reader.{Reader}
-use Rattle.text.specs.Lines.{Got, got, bad, nothing}
-use Rattle.text.specs.Cursors.{left}
+use Rattle.text.specs.Lines.{Got, got, bad}
+use Rattle.text.specs.Cursors.{left, atEnd}
 use Rattle.problem.specs.Data.{OperatorData, MethodData, ProblemData}
 use Rattle.problem.specs.Formats.{Flaw, entryFlaw, bind, Format, both, times, ended, whole}
 use Rattle.problem.specs.Files.{HeadData, head, operator, method, blocks, FileParts, fileParts, fileJoin, problemFile, loads}
@@ -51,13 +52,11 @@ tells F s text None e t f = tt
 tells F s text (Some b) e t f = ap ended (starts F s text e t ∙ f)
 
 -- question 7
-pub ends-there : {X : Type 0} (x : X) (l p : ℕ) (bs : List ℕ) → nothing bs ≡ true → ended (got x l p bs) ≡ Ok x
-ends-there x l p [] e = refl
-ends-there x l p (c ∷ cs) e = let z : _≡_ {A = ℕ} 0 1 = cc in absurd (omega arith)
+pub ends-there : {X : Type 0} (x : X) (s : Reader) → atEnd s ≡ true → ended (got x (s .line) (s .byte) (left s)) ≡ Ok x
+ends-there x s e = ap (λ (bs : List ℕ). ended (got x (s .line) (s .byte) bs)) (drop-all (s .byte) (now (s .text)) (leb-true _ _ e))
 
-pub goes-on : {X : Type 0} (x : X) (l p : ℕ) (bs : List ℕ) → nothing bs ≡ false → ended (got x l p bs) ≡ Err (entryFlaw FileEnds l p)
-goes-on x l p [] e = let z : _≡_ {A = ℕ} 0 1 = cc in absurd (omega arith)
-goes-on x l p (c ∷ cs) e = refl
+pub goes-on : {X : Type 0} (x : X) (s : Reader) → atEnd s ≡ false → ended (got x (s .line) (s .byte) (left s)) ≡ Err (entryFlaw FileEnds (s .line) (s .byte))
+goes-on x s e = ap (λ (bs : List ℕ). ended (got x (s .line) (s .byte) bs)) (drop-more (now (s .text)) (s .byte) 0 (leb-false _ _ e))
 
 module _ (r : Reader) (text : List ℕ) (start : (r .line ≡ 1) × (r .byte ≡ 0)) (same : now (r .text) ≡ text) where
   pub head-fails : (o : Option Flaw) → Fails (from head r) o → Tells (loads text) o

@@ -5,18 +5,18 @@ use mathlib.Core.List.{List, [], _∷_, _++_}
 use mathlib.Core.Logic.{⊎-elim}
 use Prim.Native.Nat.{ℕ, _+_, _-_, _<_, _≤_}
 use native.Mathlib.Omega.{arith}
-use lib.Dec.{eqb, leb}
+use lib.Dec.{eqb}
 use lib.ListN.{length, take, drop, getD}
 use Rattle.std.specs.Options.{isSome}
 use Rattle.std.specs.declared.option.Option.{Option}
 use Rattle.std.specs.declared.option.Option.the-variants.{Some, None}
 use Rattle.std.proofs.shelf.Lists.{drop-more, drop-all, at-drop-more, take-rest, drop-drop}
-use Rattle.std.proofs.shelf.Tests.{cases-bool, both-ways, cond-true, cond-false, eq-eqb, ne-eqb, leb-true, leb-false}
+use Rattle.std.proofs.shelf.Tests.{cases-bool, both-ways, cond-true, cond-false, eq-eqb, ne-eqb}
 use Rattle.base.specs.declared.question.Question.the-variants.{LineEnds, KeyDue}
 use Rattle.text.specs.declared.place.Numbered.{Numbered}
 use Rattle.text.specs.Values.{value, numbersOf}
 use Rattle.text.proofs.Keyed.{key-stood}
-use Rattle.text.specs.Lines.{nothing, ends, after, aLine, keyed, scanned, bad, textFault, numbersIn, numbersAfter}
+use Rattle.text.specs.Lines.{ends, after, aLine, keyed, scanned, bad, textFault, numbersIn, numbersAfter}
 
 pub ends-hit : (text : List ℕ) (i : ℕ) → i < length text → getD text i 0 ≡ 10 → ends (drop i text) ≡ true
 ends-hit text i h e = at-drop-more ends text i 0 h ∙ cond-true (eqb (getD text i 0) 10) _ _ (eq-eqb (getD text i 0) 10 e)
@@ -90,13 +90,6 @@ module _ (key : List ℕ) (many : Bool) (l at : ℕ) (text : List ℕ) where
   pub begun : (b : Bool) → after key slice ≡ cond b (Some (drop (length key + 1) slice)) None → b ≡ isSome (after key (drop at text))
   begun true f = sym (ap isSome (found f))
   begun false f = sym (ap isSome (found f))
-
--- nothing is left where the place is at the end
-pub nothing-left : (text : List ℕ) (at : ℕ) → leb (length text) at ≡ nothing (drop at text)
-nothing-left text at = ⊎-elim
-    (λ t. t ∙ sym (ap nothing (drop-all at text (leb-true _ _ t))))
-    (λ f. f ∙ sym (ap nothing (drop-more text at 0 (leb-false _ _ f))))
-    (cases-bool (leb (length text) at))
 
 -- a key without a line end leaves the line end to the value
 pub ends-after : (key cs : List ℕ) → ends key ≡ false → ends (key ++ (61 ∷ cs)) ≡ true → ends cs ≡ true

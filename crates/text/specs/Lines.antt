@@ -56,8 +56,3 @@ numbersAfter many from (Some bs) = numbersOf (value many from bs)
 
 abbrev pub numbersIn : Bool → List ℕ → ℕ → List ℕ → List Numbered
 numbersIn many key at bs = cond (ends bs) (numbersAfter many (at + length key + 1) (after key bs)) []
-
--- no byte is left
-abbrev pub nothing : List ℕ → Bool
-nothing [] = true
-nothing (c ∷ cs) = false

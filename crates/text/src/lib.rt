@@ -20,7 +20,6 @@ pub use render::Render;
 pub use sink::Sink;
 pub use writing::list_line;
 pub use writing::number_line;
-pub use writing::put;
 pub use writing::put_all;
 pub use writing::put_bytes;
 pub use writing::put_list;

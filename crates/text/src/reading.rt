@@ -1,13 +1,15 @@
 // Reads a text line by line.
 ghost use mathlib.Core.Path.{_≡_};
-ghost use Prim.Native.Nat.{_+_, _<_};
+ghost use Prim.Native.Nat.{_+_, _<_, _≤_};
 ghost use lib.ListN.{length, drop};
 ghost use mathlib.Core.Bool.{true, false, cond};
 ghost use Rattle.std.specs.Options.{isSome};
+ghost use Rattle.std.specs.Results.{Cases};
 ghost use Rattle.std.specs.declared.option.Option.the-variants.{Some, None};
-ghost use Rattle.text.specs.Lines.{ends as endsIn, after, nothing, numbersIn, placeOf};
-ghost use Rattle.text.specs.Cursors.{left, Opens, Line-read, Number-read};
+ghost use Rattle.text.specs.Lines.{ends as endsIn, after, numbersIn, placeOf};
+ghost use Rattle.text.specs.Cursors.{left, atEnd, Lone-read, Opens, Line-read, Number-read};
 ghost use Rattle.text.specs.Fed.{Fed};
+ghost use Rattle.text.specs.Values.{value as valueAt};
 ghost use Rattle.text.specs.Viability.{Stops-at};
 use crate::cursor::Reader;
 use crate::numbers::Numbers;
@@ -62,6 +64,25 @@ impl Numbers for Lone as LoneNumbers {
     }
 }
 
+// The one number of the value that begins at the byte `from`, and where its line ends; or the first byte after which no
+// value is possible.
+fn lone_value(text: &[u8], from: usize) -> Result<(Numbered, usize), usize>
+    requires { ⌜ from ≤ length (now text) ⌝ }
+    ensures reads { λ r. ⌜ Lone-read (now (text .entry)) (valueAt false from (drop from (now (text .entry)))) r ⌝ }
+    ensures within { λ r. ⌜ Cases r (λ found. (from ≤ found .1) × (found .1 < length (now (text .entry)))) (λ _. Unit {0}) ⌝ }
+{
+    let mut lone = Lone {
+        number: Numbered {
+            value: 0,
+            byte: from,
+        },
+    };
+    match value(text, from, false, &mut lone) {
+        Ok(end) => Ok((lone.number, end)),
+        Err(byte) => Err(byte),
+    }
+}
+
 impl<'a> Reader<'a> {
     // Stands at the first line of the text.
     pub fn new(text: &'a [u8]) -> Reader<'a>
@@ -87,7 +108,7 @@ impl<'a> Reader<'a> {
 
     // Whether the text ends here.
     pub fn is_done(&self) -> bool
-        ensures { λ r. ⌜ r ≡ nothing (left (now (self .entry))) ⌝ }
+        ensures { λ r. ⌜ r ≡ atEnd (now (self .entry)) ⌝ }
     {
         self.byte >= self.text.len()
     }
@@ -150,17 +171,11 @@ impl<'a> Reader<'a> {
         ensures stops { λ r. ⌜ Stops-at false (now (key .entry)) (now (self .entry) .byte) (left (now (self .entry))) r ⌝ }
     {
         let from = self.open(key)?;
-        let mut lone = Lone {
-            number: Numbered {
-                value: 0,
-                byte: from,
-            },
-        };
-        match value(self.text, from, false, &mut lone) {
-            Ok(end) => {
+        match lone_value(self.text, from) {
+            Ok((number, last)) => {
                 self.line += 1;
-                self.byte = end + 1;
-                Ok(lone.number)
+                self.byte = last + 1;
+                Ok(number)
             }
             Err(byte) => Err(TextFault {
                 question: Question::ValueFormed,

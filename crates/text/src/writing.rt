@@ -98,7 +98,7 @@ pub fn list_line<S: Sink>(sink: &mut S, key: &[u8], ns: &[u16])
 }
 
 // Writes the value among others.
-pub fn put<S: Sink, R: Render>(sink: &mut S, what: &R)
+fn put<S: Sink, R: Render>(sink: &mut S, what: &R)
     ensures { λ _. ⌜ Feeds takes (now (sink .entry)) (text (now (what .entry))) (now (sink .exit)) ⌝ }
 {
     what.render(sink);

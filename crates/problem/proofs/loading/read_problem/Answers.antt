@@ -34,13 +34,13 @@ returns-in-Break-finish c =
     let f = c .in-Break-finish .ensures tt in
     simp (p .1, p .2) (all-read (c .new-reader .result) (c .args .text .now) (c .new-reader .ensures .start) (c .new-reader .ensures .text) _ (c .read-head .last .reader) (c .in-Continue-head .ensures tt .reads)
     _ (c .read-operators .last .reader) (c .in-Continue-operators .ensures tt .reads) _ (c .read-methods .last .reader) (c .in-Continue-methods .ensures tt .reads)
-    ∙ goes-on _ _ _ _ (f .0) ∙ ap (λ (e : Refusal). Err (ofEntry e)) (sym (f .1)))
+    ∙ goes-on _ (c .read-methods .last .reader) (f .0) ∙ ap (λ (e : Refusal). Err (ofEntry e)) (sym (f .1)))
 
 pub ghost-result : need.ghost-result
 ghost-result c =
     let read = all-read (c .new-reader .result) (c .args .text .now) (c .new-reader .ensures .start) (c .new-reader .ensures .text) _ (c .read-head .last .reader) (c .in-Continue-head .ensures tt .reads)
     _ (c .read-operators .last .reader) (c .in-Continue-operators .ensures tt .reads) _ (c .read-methods .last .reader) (c .in-Continue-methods .ensures tt .reads)
-    ∙ ends-there _ _ _ _ (c .in-Continue-finish .ensures tt) in
+    ∙ ends-there _ (c .read-methods .last .reader) (c .in-Continue-finish .ensures tt) in
     (file-back (c .args .text .now) _ read .0, tt)
 
 pub returns : need.returns
@@ -48,4 +48,4 @@ unfolding problemOf
 returns c =
     all-read (c .new-reader .result) (c .args .text .now) (c .new-reader .ensures .start) (c .new-reader .ensures .text) _ (c .read-head .last .reader) (c .in-Continue-head .ensures tt .reads)
     _ (c .read-operators .last .reader) (c .in-Continue-operators .ensures tt .reads) _ (c .read-methods .last .reader) (c .in-Continue-methods .ensures tt .reads)
-    ∙ ends-there _ _ _ _ (c .in-Continue-finish .ensures tt)
+    ∙ ends-there _ (c .read-methods .last .reader) (c .in-Continue-finish .ensures tt)

@@ -42,7 +42,7 @@ returns-in-Break-finish c =
     _ (c .read-shop .last .reader) (c .in-Continue-read-shop .ensures tt .reads) _ (c .read-count .last .reader) (c .in-Continue-count .ensures tt .reads)
     (c .len .result) (c .len-2 .result) (c .len .ensures ∙ methods-are (c .args .problem .now)) (c .len-2 .ensures ∙ operators-are (c .args .problem .now))
     _ (c .read-rows .last .reader) (c .in-Continue-rows .ensures tt .reads)
-    ∙ goes-on _ _ _ _ (f .0) ∙ ap (λ (e : Refusal). Err (ofEntry e)) (sym (f .1)))
+    ∙ goes-on _ (c .read-rows .last .reader) (f .0) ∙ ap (λ (e : Refusal). Err (ofEntry e)) (sym (f .1)))
 
 pub returns : need.returns
 unfolding problemOf
@@ -51,4 +51,4 @@ returns c =
     _ (c .read-shop .last .reader) (c .in-Continue-read-shop .ensures tt .reads) _ (c .read-count .last .reader) (c .in-Continue-count .ensures tt .reads)
     (c .len .result) (c .len-2 .result) (c .len .ensures ∙ methods-are (c .args .problem .now)) (c .len-2 .ensures ∙ operators-are (c .args .problem .now))
     _ (c .read-rows .last .reader) (c .in-Continue-rows .ensures tt .reads)
-    ∙ ends-there _ _ _ _ (c .in-Continue-finish .ensures tt)
+    ∙ ends-there _ (c .read-rows .last .reader) (c .in-Continue-finish .ensures tt)
