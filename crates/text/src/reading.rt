@@ -50,6 +50,14 @@ fn begins(text: &[u8], key: &[u8]) -> bool
     }
 }
 
+// Whether the key and '=' stand at the byte `at`.
+fn begins_at(text: &[u8], at: usize, key: &[u8]) -> bool
+    requires { ⌜ at ≤ length (now text) ⌝ }
+    ensures { λ r. ⌜ r ≡ isSome (after (now (key .entry)) (drop at (now (text .entry)))) ⌝ }
+{
+    begins(&text[at..], key)
+}
+
 // The last number that was handed on.
 #[derive(Drop)]
 struct Lone {
@@ -117,7 +125,7 @@ impl<'a> Reader<'a> {
     pub fn begins(&self, key: &[u8]) -> bool
         ensures { λ r. ⌜ r ≡ isSome (after (now (key .entry)) (left (now (self .entry)))) ⌝ }
     {
-        begins(&self.text[self.byte..], key)
+        begins_at(self.text, self.byte, key)
     }
 
     // Questions 1 and 2: where the value begins that stands after the key.
