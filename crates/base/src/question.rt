@@ -5,53 +5,53 @@ ghost use Rattle.base.specs.Questions.{numberOf};
 // A refusal names the first question that was answered no.
 #[derive(Clone, Copy, Debug)]
 pub enum Question {
-    // Is there a line here that ends in 0x0A?
+    // Do the bytes from here on have a line end, 0x0A?
     LineEnds = 1,
-    // Does it begin with a key due here and `=`?
+    // Are the line's first bytes a key that is due here, and `=`?
     KeyDue = 2,
-    // Is the value a number or a list as the key demands?
+    // Is the value well formed: one number, or a list, whichever this key has?
     ValueFormed = 3,
-    // Is each number in its range?
+    // Does every number lie in its range?
     NumberInRange = 4,
-    // Is the list within its greatest length?
+    // Has the list at most its greatest number of entries?
     ListWithinLength = 5,
-    // Does it ascend where it must?
+    // Where the list must ascend, is each number greater than the one before it?
     ListAscends = 6,
-    // Does the file end after the last line?
+    // Are there no bytes after the last line?
     FileEnds = 7,
-    // Is the plan's `shop` the loaded problem's number?
+    // Does the plan text give the number of the loaded problem as its `shop`?
     SameProblem = 8,
-    // Is the slice for entries long enough?
+    // Has the slice room for all entries?
     SliceLongEnough = 9,
-    // Is the level limit from 1 to 32?
+    // Does the level limit lie between 1 and 32, both included?
     LevelLimitInRange = 10,
-    // Is the row limit from 1 to 2,000?
+    // Does the row limit lie between 1 and 2,000, both included?
     RowLimitInRange = 11,
-    // Is the state's size at least the problem's facts?
+    // Has the state at least as many facts as the problem?
     StateLargeEnough = 12,
-    // Is the number of trials allowed from 1 to 60,000?
+    // Does k, the number of trials allowed, lie between 1 and 60,000, both included?
     TrialsInRange = 13,
-    // Has the search not yet said that none is left?
+    // Has no try of this search answered `NoneLeft`?
     NotExhausted = 14,
-    // Did the last accepted try answer found?
+    // Was `Found` the answer of the last accepted try?
     LastTryFound = 15,
-    // Is a task open for this row?
+    // When this row's turn comes, is some task still open?
     TaskOpen = 16,
-    // Is the row for the first open task?
+    // Is the first open task the row's operator, or the `for` of the row's method?
     RowForTask = 17,
-    // Do its conditions hold?
+    // Do the conditions of the row's operator or method hold?
     ConditionsHold = 18,
-    // Is its level right?
+    // Is the row a `do` row, or its `sub` empty, or the task's level below the level limit?
     LevelRight = 19,
-    // Are there no more open tasks than rows that follow?
+    // Do at least as many rows follow as tasks are open?
     OpenWithinRows = 20,
-    // Has the plan at most as many rows as the row limit?
+    // Is the number of rows at most the row limit?
     WithinRowLimit = 21,
-    // Is the slice for the text long enough?
+    // Has the slice for bytes room for the whole text?
     TextFits = 22,
-    // Is the walk not over?
+    // Is there a `do` row at or after the walk's place?
     WalkNotOver = 23,
-    // Is the fact below the state's size?
+    // Is the fact's number smaller than the state's size?
     FactWithinState = 24,
 }
 
