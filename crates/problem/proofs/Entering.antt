@@ -1,24 +1,22 @@
 -- What is kept of a line's numbers is what the questions ask of them. Assumes nothing.
-use mathlib.Core.Path.{_≡_, refl, sym, ap, _∙_, subst}
+use mathlib.Core.Path.{_≡_, refl, sym, ap, _∙_}
 use mathlib.Core.Bool.{Bool, true, false, cond}
 use mathlib.Core.List.{List, [], _∷_, _++_, append-assoc, append-nil}
 use mathlib.Core.Logic.{⊎-elim}
 use Prim.Native.Nat.{ℕ, zero, suc, _-_, _≤_, _<_, _+_}
 use native.Mathlib.Omega.{arith}
 use lib.Dec.{ltb}
-use lib.ListN.{length, take, length-append}
+use lib.ListN.{length, length-append}
 use Rattle.std.specs.Of.Vec.{vec-items}
 use Rattle.std.specs.declared.option.Option.{Option}
 use Rattle.std.specs.declared.option.Option.the-variants.{Some, None}
-use Rattle.std.proofs.shelf.Lists.{take-all}
 use Rattle.std.proofs.shelf.Tests.{cases-bool, cond-true, cond-false, ltb-true, ltb-false}
 use Rattle.base.specs.declared.question.Question.the-variants.{NumberInRange, ListWithinLength, ListAscends}
 use Rattle.text.specs.declared.place.Numbered.{Numbered}
 use Rattle.text.specs.declared.place.TextFault.{TextFault}
 use Rattle.text.specs.Fed.{Fed}
 use Rattle.text.specs.Values.{values}
-use Rattle.text.specs.Lines.{Got, got, bad, aLine}
-use Rattle.text.proofs.Trips.{length-values}
+use Rattle.text.specs.Lines.{Got, got, bad}
 use Rattle.problem.specs.declared.rule.Entries.{Entries}
 use Rattle.problem.specs.declared.rule.Rule.{Rule}
 use Rattle.problem.specs.declared.faults.Refusal.{Refusal}

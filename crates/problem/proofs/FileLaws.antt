@@ -1,15 +1,13 @@
 -- The law of the problem file, and that its good values are the legal problems. Assumes nothing.
-use mathlib.Core.Path.{_≡_, refl, sym, ap, _∙_, subst}
-use mathlib.Core.Bool.{Bool, true, false, cond, _&&_}
-use mathlib.Core.List.{List, [], _∷_, _++_}
-use Prim.Native.Nat.{ℕ, zero, suc, _+_, _≤_, _<_}
-use native.Mathlib.Omega.{arith}
+use mathlib.Core.Path.{_≡_, refl, sym, ap, _∙_}
+use mathlib.Core.Bool.{true}
+use mathlib.Core.List.{List, [], _∷_}
+use Prim.Native.Nat.{ℕ, zero, suc, _+_}
 use lib.Chars.{codes}
-use lib.Dec.{ltb, leb}
 use lib.ListN.{length}
 use Rattle.std.specs.declared.result.Result.the-variants.{Ok}
-use Rattle.problem.specs.Data.{OperatorData, MethodData, ProblemData}
-use Rattle.problem.specs.Formats.{Lawful, GoodAll, via, both, times, aNumber, aList, ranged}
+use Rattle.problem.specs.Data.{ProblemData}
+use Rattle.problem.specs.Formats.{Lawful, GoodAll, ranged}
 use Rattle.problem.specs.Files.{factRule, taskRule, HeadData, headSplit, headJoin, headLines, head, operatorSplit, operatorJoin, operatorLines, operator, methodSplit, methodJoin, methodLines, method, FileParts, fileSplit, fileJoin, blocks, fileParts, problemFile, textOf, loads}
 use Rattle.problem.proofs.Laws.{via-lawful, both-lawful, times-lawful, whole-there, whole-back}
 use Rattle.problem.proofs.LineLaws.{list-lawful, number-lawful}

@@ -1,21 +1,20 @@
 -- The parts of a problem file, one after another, as code reads them. Assumes nothing.
-use mathlib.Core.Path.{_≡_, refl, sym, ap, _∙_}
+use mathlib.Core.Path.{_≡_, sym, ap, _∙_}
 use mathlib.Core.Bool.{true, false}
-use mathlib.Core.List.{List, [], _∷_}
+use mathlib.Core.List.{List}
 use Prim.Native.Nat.{ℕ}
 use denote.Ref.{now}
 use lib.ListN.{drop}
 use Rattle.std.specs.declared.option.Option.{Option}
 use Rattle.std.specs.declared.option.Option.the-variants.{Some, None}
-use Rattle.std.specs.declared.result.Result.{Result}
 use Rattle.std.specs.declared.result.Result.the-variants.{Ok, Err}
 use Rattle.std.proofs.shelf.Lists.{drop-all, drop-more}
 use Rattle.std.proofs.shelf.Tests.{leb-true, leb-false}
 use Rattle.base.specs.declared.question.Question.the-variants.{FileEnds}
 use Rattle.text.specs.declared.cursor.Reader.{Reader}
-use Rattle.text.specs.Lines.{Got, got, bad}
+use Rattle.text.specs.Lines.{Got, got}
 use Rattle.text.specs.Cursors.{left, atEnd}
-use Rattle.problem.specs.Data.{OperatorData, MethodData, ProblemData}
+use Rattle.problem.specs.Data.{OperatorData, MethodData}
 use Rattle.problem.specs.Formats.{Flaw, entryFlaw, bind, Format, both, times, ended, whole}
 use Rattle.problem.specs.Files.{HeadData, head, operator, method, blocks, FileParts, fileParts, fileJoin, problemFile, loads}
 use Rattle.problem.specs.Reads.{Fails}

@@ -3,7 +3,7 @@ use mathlib.Core.Path.{_≡_, refl, sym, ap, _∙_, subst}
 use mathlib.Core.List.{List, [], _∷_, _++_, append-assoc, append-nil}
 use Prim.Native.Nat.{ℕ, zero, suc}
 use native.Mathlib.Omega.{arith}
-use Rattle.std.specs.declared.result.Result.the-variants.{Ok, Err}
+use Rattle.std.specs.declared.result.Result.the-variants.{Ok}
 use Rattle.text.specs.Lines.{Got, got, bad}
 use Rattle.text.specs.Lists.{each}
 use Rattle.problem.specs.Formats.{Flaw, bind, Format, Lawful, via, both, GoodAll, readAll, times, ended, whole}
@@ -112,9 +112,3 @@ whole-back F law bs x e =
     let w = ended-ok (F .read 1 0 bs) x e in
     let k = law .writes-back 1 0 bs x (w .0) (w .1) [] (w .2) in
     (k .0, sym (k .1 ∙ append-nil (F .write x)))
-
--- one reading after another, as code does it with `?`
-pub both-got : {X Y : Type 0} (F : Format X) (G : X → Format Y) (l p : ℕ) (bs : List ℕ) (x : X) (m q : ℕ) (cs : List ℕ) (y : Y) (n r : ℕ) (rest : List ℕ)
-    → F .read l p bs ≡ got x m q cs → G x .read m q cs ≡ got y n r rest → both F G .read l p bs ≡ got (x, y) n r rest
-both-got {X = X} {Y = Y} F G l p bs x m q cs y n r rest e f =
-    ap (λ (o : Got Flaw X). bind o (λ x m q cs. bind (G x .read m q cs) (λ y. got (x, y)))) e ∙ ap (λ (o : Got Flaw Y). bind o (λ y. got (x, y))) f

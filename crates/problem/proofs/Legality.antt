@@ -1,9 +1,9 @@
 -- The good values of the problem file are the legal problems. Assumes nothing.
-use mathlib.Core.Path.{_≡_, refl, sym, ap, _∙_}
-use mathlib.Core.Bool.{Bool, true, false, cond, _&&_}
+use mathlib.Core.Path.{_≡_, refl, sym, _∙_}
+use mathlib.Core.Bool.{Bool, true, _&&_}
 use mathlib.Core.List.{List, [], _∷_}
 use mathlib.Core.Logic.{⊎-elim}
-use Prim.Native.Nat.{ℕ, zero, suc, _+_, _≤_, _<_}
+use Prim.Native.Nat.{ℕ, _+_, _≤_, _<_}
 use native.Mathlib.Omega.{arith}
 use lib.Dec.{ltb, leb}
 use lib.ListN.{length}
@@ -13,7 +13,7 @@ use Rattle.base.specs.declared.question.Question.the-variants.{NumberInRange}
 use Rattle.text.specs.Viability.{Each}
 use Rattle.problem.specs.Data.{OperatorData, MethodData, ProblemData}
 use Rattle.problem.specs.Formats.{Rising, Allowed, GoodAll, inside, ranged}
-use Rattle.problem.specs.Files.{factRule, taskRule, operator, method, fileSplit, head, problemFile}
+use Rattle.problem.specs.Files.{factRule, taskRule, operator, method, problemFile}
 use Rattle.problem.specs.Legal.{every, between, rises, factList, taskList, legalOperator, legalMethod, legal}
 
 pub in-range : (low end n : ℕ) → ranged low end n ≡ None → (low ≤ n) × (n < end)

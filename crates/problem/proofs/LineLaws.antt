@@ -1,13 +1,12 @@
 -- The laws of a line with a list and of a line with one number. Assumes nothing.
 use mathlib.Core.Path.{_≡_, refl, sym, ap, _∙_, subst}
-use mathlib.Core.Bool.{Bool, true, false, cond, _&&_}
+use mathlib.Core.Bool.{Bool, true, false, _&&_}
 use mathlib.Core.List.{List, [], _∷_, _++_}
 use mathlib.Core.Logic.{⊎-elim}
 use Prim.Native.Nat.{ℕ, zero, suc, _+_, _≤_, _<_}
 use native.Mathlib.Omega.{arith}
 use lib.Dec.{ltb, leb}
 use lib.ListN.{length}
-use Rattle.std.specs.Written.{decimal}
 use Rattle.std.specs.declared.option.Option.{Option}
 use Rattle.std.specs.declared.option.Option.the-variants.{Some, None}
 use Rattle.std.proofs.shelf.Tests.{cases-bool, cond-true, cond-false, and-parts, and-from, le-leb, leb-true, lt-ltb, ltb-true}
@@ -20,9 +19,9 @@ use Rattle.text.specs.Values.{values}
 use Rattle.text.specs.Viability.{Each}
 use Rattle.text.specs.Lines.{Got, got, bad, aLine}
 use Rattle.text.proofs.Trips.{placed, length-values}
-use Rattle.text.proofs.Keyed.{values-placed, line-written, Line-stood, line-stood}
+use Rattle.text.proofs.Keyed.{values-placed, line-written, line-stood}
 use Rattle.problem.specs.declared.rule.Rule.{Rule}
-use Rattle.problem.specs.Formats.{Flaw, ofText, onLine, inside, outside, excess, above, descends, descent, unless, judged, Format, Lawful, Rising, Allowed, aList, refused, single, aNumber}
+use Rattle.problem.specs.Formats.{Flaw, onLine, outside, excess, descends, descent, unless, judged, Lawful, Rising, Allowed, aList, refused, single, aNumber}
 
 abbrev InRange : ℕ → ℕ → List ℕ → Type 0
 InRange low end = Each (λ n. (low ≤ n) × (n < end))

@@ -1,7 +1,7 @@
 -- The law of the plan text, and that its good values are the legal plans. Assumes nothing.
 use mathlib.Core.Path.{_≡_, refl, sym, ap, _∙_, subst}
-use mathlib.Core.Bool.{Bool, true, false, cond, _&&_}
-use mathlib.Core.List.{List, [], _∷_, _++_}
+use mathlib.Core.Bool.{Bool, true, false, cond}
+use mathlib.Core.List.{List, _++_}
 use mathlib.Core.Logic.{⊎-elim}
 use Prim.Native.Nat.{ℕ, _≤_, _<_}
 use native.Mathlib.Omega.{arith}
@@ -9,7 +9,6 @@ use lib.Chars.{codes}
 use lib.Dec.{eqb, ltb, leb}
 use lib.ListN.{length}
 use Rattle.std.specs.Options.{isSome}
-use Rattle.std.specs.declared.option.Option.{Option}
 use Rattle.std.specs.declared.option.Option.the-variants.{Some, None}
 use Rattle.std.specs.declared.result.Result.the-variants.{Ok}
 use Rattle.std.proofs.shelf.Tests.{cases-bool, cond-true, cond-false, and-parts, and-from, le-leb, leb-true, lt-ltb, ltb-true, eq-eqb, eqb-true}
@@ -19,7 +18,7 @@ use Rattle.text.specs.Lines.{Got, got, after}
 use Rattle.problem.specs.declared.entries.Row.{Row}
 use Rattle.problem.specs.declared.entries.Row.the-variants.{By, Do}
 use Rattle.problem.specs.Data.{ProblemData}
-use Rattle.problem.specs.Formats.{Flaw, bind, inside, Lawful, GoodAll, ranged}
+use Rattle.problem.specs.Formats.{Flaw, bind, inside, Lawful, ranged}
 use Rattle.problem.specs.Legal.{every, legal}
 use Rattle.problem.specs.Plans.{sameShop, fitting, byLine, doLine, rowGood, rowText, row, PlanLines, planLines, planSplit, planJoin, planFile, planText, planLoads, known, legalPlan, Plan-exactly}
 use Rattle.problem.proofs.Laws.{came, via-lawful, both-lawful, times-lawful, whole-there, whole-back}

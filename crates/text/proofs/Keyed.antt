@@ -1,9 +1,9 @@
 -- A line that was written is read as what it is, and a line that was read stood as it is written. Assumes nothing.
 use mathlib.Core.Path.{_≡_, refl, sym, ap, _∙_, subst}
-use mathlib.Core.Bool.{Bool, true, false, cond}
+use mathlib.Core.Bool.{Bool, true, false}
 use mathlib.Core.List.{List, [], _∷_, _++_, append-assoc, append-nil}
-use mathlib.Core.Logic.{_⊎_, inl, inr, ⊎-elim}
-use Prim.Native.Nat.{ℕ, suc, _+_, _≤_, _<_}
+use mathlib.Core.Logic.{_⊎_, ⊎-elim}
+use Prim.Native.Nat.{ℕ, _+_, _≤_, _<_}
 use native.Mathlib.Omega.{arith}
 use lib.Dec.{eqb}
 use lib.ListN.{length}
@@ -13,12 +13,11 @@ use Rattle.std.specs.declared.option.Option.the-variants.{Some, None}
 use Rattle.std.proofs.shelf.Tests.{cases-bool, cond-true, cond-false, eq-eqb, eqb-true}
 use Rattle.base.specs.declared.question.Question.the-variants.{LineEnds}
 use Rattle.text.specs.declared.place.Numbered.{Numbered}
-use Rattle.text.specs.declared.place.TextFault.{TextFault}
 use Rattle.text.specs.Lists.{list, lineOf}
 use Rattle.text.specs.Viability.{Each}
 use Rattle.text.specs.Values.{Scan, line, fault, value, values}
-use Rattle.text.specs.Lines.{Got, got, bad, ends, after, scanned, keyed, aLine, textFault}
-use Rattle.text.proofs.Trips.{placed, reads-list, reads-number, length-values, value-stood}
+use Rattle.text.specs.Lines.{got, bad, ends, after, scanned, keyed, aLine, textFault}
+use Rattle.text.proofs.Trips.{placed, reads-list, reads-number, value-stood}
 
 pub ends-there : (xs ys : List ℕ) → ends (xs ++ (10 ∷ ys)) ≡ true
 ends-there [] ys = refl

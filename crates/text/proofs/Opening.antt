@@ -13,7 +13,6 @@ use Rattle.std.specs.declared.option.Option.the-variants.{Some, None}
 use Rattle.std.proofs.shelf.Lists.{drop-more, drop-all, at-drop-more, take-rest, drop-drop}
 use Rattle.std.proofs.shelf.Tests.{cases-bool, both-ways, cond-true, cond-false, eq-eqb, ne-eqb}
 use Rattle.base.specs.declared.question.Question.the-variants.{LineEnds, KeyDue}
-use Rattle.text.specs.declared.place.Numbered.{Numbered}
 use Rattle.text.specs.Values.{value, numbersOf}
 use Rattle.text.proofs.Keyed.{key-stood}
 use Rattle.text.specs.Lines.{ends, after, aLine, keyed, scanned, bad, textFault, numbersIn, numbersAfter}

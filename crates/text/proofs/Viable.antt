@@ -1,8 +1,8 @@
 -- The byte at fault under question 3 is the first after which no value is possible. Assumes nothing.
 use mathlib.Core.Path.{_≡_, refl, sym, ap, _∙_, subst}
-use mathlib.Core.Bool.{Bool, true, false, cond, _&&_}
+use mathlib.Core.Bool.{Bool, true, false, _&&_}
 use mathlib.Core.List.{List, [], _∷_, _++_, append-assoc}
-use mathlib.Core.Logic.{_⊎_, inl, inr, ⊎-elim}
+use mathlib.Core.Logic.{_⊎_, ⊎-elim}
 use Prim.Native.Nat.{ℕ, suc, _+_, _-_, _*_, _≤_, _<_}
 use native.Mathlib.Omega.{arith}
 use native.Mathlib.Nat.{add-zero}
@@ -10,15 +10,14 @@ use lib.Dec.{eqb}
 use lib.ListN.{length}
 use Rattle.std.specs.declared.option.Option.{Option}
 use Rattle.std.specs.declared.option.Option.the-variants.{Some, None}
-use Rattle.std.proofs.shelf.Tests.{cases-bool, cond-true, cond-false, and-right, both-ways}
+use Rattle.std.proofs.shelf.Tests.{cases-bool, cond-true, cond-false, both-ways}
 use Rattle.std.proofs.shelf.Ways.{tells}
 use Rattle.text.specs.declared.place.Numbered.{Numbered}
 use Rattle.text.specs.Lists.{list}
-use Rattle.text.specs.Viability.{Each}
 use Rattle.text.specs.Values.{digit, follows, Before, due, figures, Scan, line, fault, push, scan, value, values}
 use Rattle.text.specs.Lines.{ends}
-use Rattle.text.specs.Viability.{Can, First-fault}
-use Rattle.text.proofs.Trips.{placed, length-values, value-stood}
+use Rattle.text.specs.Viability.{First-fault}
+use Rattle.text.proofs.Trips.{length-values, value-stood}
 use Rattle.text.proofs.Keyed.{scan-written}
 use Rattle.text.proofs.Opening.{ends-after}
 

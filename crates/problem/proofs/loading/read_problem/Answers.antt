@@ -1,10 +1,8 @@
-use mathlib.Core.Path.{_≡_, refl, sym, ap, _∙_}
-use mathlib.Core.Bool.{true}
-use Rattle.std.specs.declared.result.Result.the-variants.{Ok, Err}
+use mathlib.Core.Path.{sym, ap, _∙_}
+use Rattle.std.specs.declared.result.Result.the-variants.{Err}
 use Rattle.std.proofs.shelf.Results.{err-from-errBy}
 use Rattle.problem.specs.declared.faults.Refusal.{Refusal}
-use Rattle.problem.specs.Data.{ProblemData}
-use Rattle.problem.specs.Formats.{Flaw, ofEntry}
+use Rattle.problem.specs.Formats.{ofEntry}
 use Rattle.problem.specs.Loaded.{problemOf}
 use Rattle.problem.specs.Reads.{flawOf}
 use Rattle.problem.proofs.FileLaws.{file-back}

@@ -1,11 +1,8 @@
-use mathlib.Core.Path.{_≡_, refl, ap, _∙_, subst, sym}
-use mathlib.Core.List.{List, [], _∷_, _++_}
-use Prim.Native.Nat.{ℕ, _≤_}
-use lib.ListN.{length, drop}
+use mathlib.Core.Path.{_≡_, refl, ap, _∙_, sym}
+use mathlib.Core.List.{[], _∷_, _++_}
+use lib.ListN.{length}
 use native.Mathlib.Omega.{arith}
 use borrow.Author.Needs.{needs}
-use Rattle.text.specs.declared.place.Numbered.{Numbered}
-use Rattle.text.specs.Fed.{Fed}
 use Rattle.text.specs.Values.{fault, numbersOf}
 use Rattle.text.proofs.FedLaws.{fed-start, fed-push, fed-is, fed-to}
 use Rattle.text.proofs.Turns.{on-last, on-empty, on-stop, on-more, on-put, at-end}

@@ -1,10 +1,9 @@
-use mathlib.Core.Path.{_≡_, refl, sym, ap, _∙_}
+use mathlib.Core.Path.{refl, sym, ap, _∙_}
 use mathlib.Core.List.{List}
 use Prim.Native.Nat.{ℕ}
-use Rattle.std.specs.declared.result.Result.the-variants.{Ok}
 use Rattle.std.proofs.shelf.Results.{err-from-errBy}
 use Rattle.problem.specs.Files.{loads}
-use Rattle.problem.specs.Loaded.{Loads-exactly, problemOf}
+use Rattle.problem.specs.Loaded.{Loads-exactly}
 use Rattle.problem.proofs.FileLaws.{file-there, file-back}
 use Rattle.problem.proofs.definition.Problem.load.Needs as need
 

@@ -2,7 +2,6 @@ use mathlib.Core.Path.{subst}
 use mathlib.Core.List.{List}
 use Prim.Native.Nat.{ℕ}
 use Rattle.text.specs.Rendered.{Written}
-use Rattle.problem.specs.Texts.{problemBytes}
 use Rattle.problem.specs.Files.{textOf}
 use Rattle.problem.specs.Loaded.{problemOf}
 use Rattle.problem.proofs.Texts.{bytes-are, always-fits, written-back}

@@ -1,4 +1,4 @@
-use mathlib.Core.Path.{_≡_, refl, ap, _∙_}
+use mathlib.Core.Path.{refl, ap, _∙_}
 use mathlib.Core.Bool.{false}
 use Rattle.text.specs.Lines.{scanned}
 use Rattle.text.proofs.Viable.{stops-value}
