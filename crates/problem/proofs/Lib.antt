@@ -10,3 +10,4 @@ pub mod PlanLaws
 pub mod PlanReading
 pub mod Texts
 pub mod PlanTexts
+pub mod Stopping

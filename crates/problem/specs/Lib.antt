@@ -1,6 +1,7 @@
 pub mod Formats
 pub mod Entered
 pub mod Reads
+pub mod Stops
 pub mod Data
 pub mod Legal
 pub mod Files

@@ -9,6 +9,7 @@ ghost use Rattle.problem.specs.Files.{factRule, taskRule, head as headFormat, 
 ghost use Rattle.problem.specs.Reads.{Reads, flawOf};
 ghost use Rattle.problem.specs.Heads.{headOf, Finishes};
 ghost use Rattle.problem.specs.Loaded.{problemOf, newData, Read-whole, Filled, Loads-exactly, Back};
+ghost use Rattle.problem.specs.Stops.{Stops};
 use crate::definition::Problem;
 use crate::entries::Method;
 use crate::entries::Operator;
@@ -247,6 +248,7 @@ impl Problem {
         ensures fills { λ r. ⌜ Filled (now (text .entry)) (now (self .entry)) r (now (self .exit)) ⌝ }
         ensures exactly { λ _. ⌜ Loads-exactly (now (text .entry)) ⌝ }
         ensures back { λ r. ⌜ Back (now (text .entry)) r (now (self .exit)) ⌝ }
+        ensures stops { λ r. ⌜ Stops flawOf (now (text .entry)) r ⌝ }
     {
         let loaded = read_problem(heap, text)?;
         *self = loaded;

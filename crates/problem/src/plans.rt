@@ -5,6 +5,7 @@ ghost use Rattle.std.specs.Of.Vec.{vec-items};
 ghost use Rattle.problem.specs.Formats.{aNumber, ranged as rangedOf, times};
 ghost use Rattle.problem.specs.Plans.{sameShop, fitting, row as rowFormat, Rows-read, Rows-loaded, Plan-exactly};
 ghost use Rattle.problem.specs.Reads.{Reads, planFlawOf, same};
+ghost use Rattle.problem.specs.Stops.{Stops};
 ghost use lib.Chars.{codes};
 ghost use lib.ListN.{length, drop};
 ghost use mathlib.Core.List.{_++_};
@@ -139,6 +140,7 @@ impl Problem {
     pub fn load_plan(&self, heap: Global, text: &[u8], rows: &mut [Row]) -> Result<usize, PlanFault>
         ensures fills { λ r. ⌜ Rows-loaded (problemOf (now (self .entry))) (now (text .entry)) (now (rows .entry)) r (now (rows .exit)) ⌝ }
         ensures exactly { λ _. ⌜ Plan-exactly (problemOf (now (self .entry))) (length (now (rows .entry))) (now (text .entry)) ⌝ }
+        ensures stops { λ r. ⌜ Stops planFlawOf (now (text .entry)) r ⌝ }
     {
         let loaded = read_plan(self, heap, text, rows.len())?;
         store_rows(rows, loaded.as_slice());

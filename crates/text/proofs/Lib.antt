@@ -5,3 +5,4 @@ pub mod Opening
 pub mod Trips
 pub mod Keyed
 pub mod Viable
+pub mod Advancing

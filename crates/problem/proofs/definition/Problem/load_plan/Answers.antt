@@ -7,13 +7,14 @@ use Rattle.std.specs.Of.Vec.{vec-items}
 use Rattle.std.proofs.shelf.Results.{err-from-errBy}
 use Rattle.problem.specs.Loaded.{problemOf}
 use Rattle.problem.proofs.PlanLaws.{plan-back, plan-exactly}
+use Rattle.problem.proofs.Stopping.{plan-stops}
 use Rattle.problem.proofs.Texts.{keeps}
 use Rattle.problem.proofs.definition.Problem.load_plan.Needs as need
 
 pub returns-in-Break-loaded : need.returns-in-Break-loaded
 returns-in-Break-loaded c =
     let p = err-from-errBy (c .from-residual .result) (c .from-residual .ensures .1) in
-    simp (p .1, p .2) record { fills = (c .in-Break-loaded .ensures tt, refl); exactly = plan-exactly (problemOf (c .args .self .now)) (length (c .args .rows .now)) (keeps (c .args .self .now)) (c .args .text .now) }
+    simp (p .1, p .2) record { fills = (c .in-Break-loaded .ensures tt, refl); exactly = plan-exactly (problemOf (c .args .self .now)) (length (c .args .rows .now)) (keeps (c .args .self .now)) (c .args .text .now); stops = plan-stops (problemOf (c .args .self .now)) (length (c .args .rows .now)) (c .args .text .now) _ (c .in-Break-loaded .ensures tt) }
 
 pub store-rows-requires : need.store-rows-requires
 store-rows-requires c κs =
@@ -36,4 +37,5 @@ returns c =
         c .store-rows .ensures ∙ (λ i. c .as-slice .ensures .value i ++ drop (length (c .as-slice .ensures .value i)) (c .args .rows .now)) ∙ ap (λ (k : ℕ). vec-items v ++ drop k (c .args .rows .now)) (sym n),
       );
       exactly = plan-exactly (problemOf (c .args .self .now)) (length (c .args .rows .now)) (keeps (c .args .self .now)) (c .args .text .now);
+      stops = tt;
     }
