@@ -1,7 +1,7 @@
 // Writes numbers, lists and lines to a sink, and whole values into bytes.
 ghost use mathlib.Core.Path.{_≡_};
 ghost use mathlib.Core.List.{[], _∷_, _++_};
-ghost use Prim.Native.Nat.{_+_, _%_, _≤_};
+ghost use Prim.Native.Nat.{_+_, _%_, _<_, _≤_};
 ghost use lib.ListN.{length, drop};
 ghost use Rattle.std.specs.Written.{decimal};
 ghost use Rattle.text.specs.Lists.{list, lineOf, each};
@@ -39,14 +39,25 @@ fn last_digit(n: usize) -> u8
     b'0' + (n % 10) as u8
 }
 
-// Writes the number in decimal.
+// Writes a number below a hundred.
+fn put_short<S: Sink>(sink: &mut S, n: usize)
+    requires { ⌜ n < 100 ⌝ }
+    ensures { λ _. ⌜ Feeds takes (now (sink .entry)) (decimal n) (now (sink .exit)) ⌝ }
+{
+    if n >= 10 {
+        push(sink, last_digit(n / 10));
+    }
+    push(sink, last_digit(n));
+}
+
+// Writes the number in decimal. Those of up to three digits, which are nearly all, need no recursion.
 pub fn put_number<S: Sink>(sink: &mut S, n: usize)
     ensures { λ _. ⌜ Feeds takes (now (sink .entry)) (decimal n) (now (sink .exit)) ⌝ }
 {
-    if n >= 100 {
+    if n >= 1000 {
         put_number(sink, n / 10);
     } else if n >= 10 {
-        push(sink, last_digit(n / 10));
+        put_short(sink, n / 10);
     }
     push(sink, last_digit(n));
 }
