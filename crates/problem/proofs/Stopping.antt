@@ -16,7 +16,7 @@ use Rattle.base.specs.declared.question.Question.{Question}
 use Rattle.base.specs.declared.question.Question.the-variants.{FileEnds}
 use Rattle.text.specs.declared.place.Numbered.{Numbered}
 use Rattle.text.specs.declared.place.TextFault.{TextFault}
-use Rattle.text.specs.Lines.{Got, got, bad, after, aLine}
+use Rattle.text.specs.Lines.{Got, got, bad, ends, after, aLine}
 use Rattle.text.specs.Viability.{First-fault}
 use Rattle.text.proofs.Advancing.{From, Advanced, line-on}
 use Rattle.problem.specs.declared.rule.Rule.{Rule}
@@ -25,7 +25,7 @@ use Rattle.problem.specs.Formats.{Flaw, entryFlaw, bind, onLine, outside, exce
 use Rattle.problem.specs.Files.{headSplit, headJoin, headLines, head, operatorSplit, operatorJoin, operatorLines, operator, methodSplit, methodJoin, methodLines, method, fileSplit, fileJoin, blocks, fileParts, problemFile, loads}
 use Rattle.problem.specs.Plans.{byLine, doLine, row, planLines, planSplit, planJoin, planFile, planLoads}
 use Rattle.problem.specs.Loaded.{Tells}
-use Rattle.problem.specs.Stops.{Begins, Plain, Stopped}
+use Rattle.problem.specs.Stops.{Begins, manyOf, Stopped}
 
 -- a line of the text begins at p, and these are the bytes from there on
 abbrev Line-from : List ℕ → ℕ → List ℕ → Type 0
@@ -58,8 +58,12 @@ times-stops F s (suc n) = record {
   sound = λ text l p bs h. bind-sound text (F .read l p bs) _ (s .sound text l p bs h) (λ x m q cs k. bind-sound text (readAll (F .read) n m q cs) _ (times-stops F s n .sound text m q cs k) (λ xs n r rest j. j));
 }
 
+-- a key of ours, and what its value is
+abbrev Due : Bool → List ℕ → Type 0
+Due many key = (ends key ≡ false) × (manyOf key ≡ Some many)
+
 -- a line, and what is made of its numbers
-module _ {X : Type 0} (many : Bool) (key : List ℕ) (plain : Plain key) (text : List ℕ) (p : ℕ) (bs : List ℕ) (h : Line-from text p bs) where
+module _ {X : Type 0} (many : Bool) (key : List ℕ) (due : Due many key) (text : List ℕ) (p : ℕ) (bs : List ℕ) (h : Line-from text p bs) where
   line-sound : (g : Got TextFault (List Numbered)) (f : List Numbered → ℕ → ℕ → List ℕ → Got Flaw X) → Advanced text many key p bs g
       → ((xs : List Numbered) (m q : ℕ) (rest : List ℕ) → Line-from text q rest → Sound text (f xs m q rest)) → Sound text (onLine g f)
   line-sound (got xs m q rest) f a s = s xs m q rest (a .0, inr (a .1, a .2))
@@ -68,9 +72,9 @@ module _ {X : Type 0} (many : Bool) (key : List ℕ) (plain : Plain key) (text :
     line = bs;
     text-is = h .0 .text-is;
     begins = h .1;
-    many = many;
     key = key;
-    plain = plain;
+    many = many;
+    kind = due .1;
     stops = subst (λ (n : ℕ). First-fault many key n bs (e .place .byte)) (h .0 .place) (a q);
   }
 
@@ -78,9 +82,9 @@ unless-sound : {X : Type 0} (text : List ℕ) (q : Question) (l : ℕ) (o : Opti
 unless-sound text q l None g s = s
 unless-sound text q l (Some p) g s = tt
 
-list-stops : (key : List ℕ) (k : Rule) → Plain key → Stopping (aList key k)
-list-stops key k plain = record {
-  sound = λ text l p bs h. line-sound true key plain text p bs h (aLine true key l p bs) _ (line-on text true key (plain .0) l p bs (h .0)) (λ xs m q rest s.
+list-stops : (key : List ℕ) (k : Rule) → Due true key → Stopping (aList key k)
+list-stops key k due = record {
+  sound = λ text l p bs h. line-sound true key due text p bs h (aLine true key l p bs) _ (line-on text true key (due .0) l p bs (h .0)) (λ xs m q rest s.
       unless-sound text _ l (outside (k .low) (k .end) xs) _ (unless-sound text _ l (excess (k .most) xs) _ (unless-sound text _ l (descent (k .ascending) xs) _ s)));
 }
 
@@ -92,9 +96,9 @@ single-sound : (text : List ℕ) (judge : ℕ → Option Question) (l : ℕ) (xs
 single-sound text judge l [] m q rest s = s
 single-sound text judge l (x ∷ xs) m q rest s = refused-sound text (judge (x .value)) l (x .byte) _ s
 
-number-stops : (key : List ℕ) (judge : ℕ → Option Question) → Plain key → Stopping (aNumber key judge)
-number-stops key judge plain = record {
-  sound = λ text l p bs h. line-sound false key plain text p bs h (aLine false key l p bs) _ (line-on text false key (plain .0) l p bs (h .0)) (single-sound text judge l);
+number-stops : (key : List ℕ) (judge : ℕ → Option Question) → Due false key → Stopping (aNumber key judge)
+number-stops key judge due = record {
+  sound = λ text l p bs h. line-sound false key due text p bs h (aLine false key l p bs) _ (line-on text false key (due .0) l p bs (h .0)) (single-sound text judge l);
 }
 
 -- the whole text
