@@ -23,7 +23,7 @@ left s = drop (s .byte) (now (s .text))
 abbrev pub atEnd : Reader → Bool
 atEnd s = leb (length (now (s .text))) (s .byte)
 
--- the same text at the same place
+-- the same place; that the text is the same is said beside it
 abbrev pub Stays : Reader → Reader → Type 0
 Stays s t = (t .line ≡ s .line) × (t .byte ≡ s .byte)
 
