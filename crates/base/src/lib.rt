@@ -1,4 +1,6 @@
 // What every crate of the engine shares: the questions and the storing routine.
+#![tactic(auto)]
+
 mod question;
 mod storing;
 

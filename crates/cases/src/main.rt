@@ -1,6 +1,8 @@
 // Loads damaged texts and prints what each is refused by. A case is a line of standard input with the parts
 // kind|slots|old|new|name: the first `old` of the worked problem file (kind `shop`) or of its plan text (kind `plan`) becomes
 // `new`, and `*` stands for the whole text. A plan is loaded into a slice of so many rows.
+#![tactic(auto)]
+
 mod edits;
 mod loads;
 mod longest;

@@ -1,4 +1,6 @@
 // Reads shop.txt and list.txt in the folder it is run in, and prints whether the plan solves the problem.
+#![tactic(auto)]
+
 mod faults;
 mod judging;
 

@@ -1,4 +1,6 @@
 // What a program reads of a file.
+#![tactic(auto)]
+
 ghost use Rattle.std.specs.Prelude.{◌≤◌, IfOk, vec_len};
 
 use std::alloc::Global;

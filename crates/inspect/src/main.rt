@@ -1,5 +1,7 @@
 // Loads the problem file on standard input, and prints what it holds or what is wrong with it. Where a word is given, it names
 // a plan text, whose tree and walk are printed too.
+#![tactic(auto)]
+
 mod output;
 mod views;
 

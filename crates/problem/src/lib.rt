@@ -1,4 +1,6 @@
 // Ground total-order planning problems and plans as texts: loaded, and written back.
+#![tactic(auto)]
+
 mod definition;
 mod entries;
 mod faults;

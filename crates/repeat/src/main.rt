@@ -1,5 +1,7 @@
 // Loads or writes the problem on standard input, or validates a plan of it, many times over, so that it can be timed.
 // The words: `load`, `write` or `validate`, how often, and after `validate` the plan's file.
+#![tactic(auto)]
+
 mod texts;
 mod validation;
 

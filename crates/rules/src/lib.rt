@@ -1,4 +1,6 @@
 // What a row does: task kinds, conditions, effects and levels, over any state.
+#![tactic(auto)]
+
 mod asking;
 mod entries;
 mod facts;

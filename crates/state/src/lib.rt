@@ -1,4 +1,6 @@
 // States: which facts hold. Every state is used through the same three calls.
+#![tactic(auto)]
+
 ghost use Rattle.std.specs.Prelude.{◌≡◌, ◌≤◌, Bool, List, length, slice_set};
 ghost use Rattle.std.specs.List.{slice_get};
 ghost use Rattle.state.specs.Facts.{answered};

@@ -1,4 +1,6 @@
 // Lines, keys and values of a text: how they are read, and how they are written.
+#![tactic(auto)]
+
 mod cursor;
 mod numbers;
 mod place;

@@ -9,5 +9,5 @@ pub trait Render {
     ghost text: { Self → List ℕ };
 
     fn render<S: Sink>(&self, sink: &mut S)
-        ensures { Fed takes sink.old (text self.now) sink.new };
+        ensures { Fed S.takes sink.old (text self.now) sink.new };
 }

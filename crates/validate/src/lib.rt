@@ -1,4 +1,6 @@
 // Validation: whether a plan is a solution of a problem. It uses nothing of a search.
+#![tactic(auto)]
+
 mod decomposition;
 mod faults;
 mod limits;

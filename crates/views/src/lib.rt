@@ -1,4 +1,6 @@
 // What is made of a plan for those who use it: the walk along its stops, and the tree of its tasks.
+#![tactic(auto)]
+
 mod tree;
 mod walk;
 

@@ -32,7 +32,7 @@ returns-in-Stop g c =
 pub loop-at-preserved : goal.loop-at-preserved
 loop-at-preserved g c =
     let i = c.loop-at.invariant in
-    elim c.match-take-byte.branch [
+    elim c.match-take_byte.branch [
       | goal.in-On w ↦ (
         i.0,
         fed_to g.V.Numbers.takes _ _ _ _ w.out-is i.1,

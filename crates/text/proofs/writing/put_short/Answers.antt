@@ -8,8 +8,8 @@ returns g c =
     elim c.if-n-ge10.branch [
       | then-n-ge10 w ↦
           feeds_decimal g.S.Sink.takes _ _ c.if-n-ge10.sink _ c.args.n _ w.if-n-ge10.true (omega arith)
-          c.last-digit-2.ensures (feeds_digit g.S.Sink.takes _ _ _ (c.args.n / 10) _ (omega arith) w.last-digit.ensures refl w.push.ensures) w.sink-is c.push-2.ensures
+          c.last_digit-2.ensures (feeds_digit g.S.Sink.takes _ _ _ (c.args.n / 10) _ (omega arith) w.last_digit.ensures refl w.push.ensures) w.sink-is c.push-2.ensures
       | else-n-ge10 w ↦
           feeds_digit g.S.Sink.takes _ c.if-n-ge10.sink _ c.args.n _ w.if-n-ge10.false
-          c.last-digit-2.ensures w.sink-is c.push-2.ensures
+          c.last_digit-2.ensures w.sink-is c.push-2.ensures
     ]

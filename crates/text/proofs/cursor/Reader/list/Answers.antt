@@ -18,7 +18,7 @@ returns-in-err-from g c =
 
 pub returns-in-Err : goal.returns-in-Err
 returns-in-Err g c =
-    let o = c.in-ok-from.ensures in
+    let o = c.in_ok-from.ensures in
     let v = c.in-Err.ensures in
     record {
       reads = (o.4 true ∙ ap (scanned c.args.self.now.line) v.reads.1, (refl, refl));

@@ -5,7 +5,7 @@ use Rattle.text.proofs.cursor.Reader.number.Goals as goal
 
 pub returns-in-Err : goal.returns-in-Err
 returns-in-Err c =
-    let o = c.in-ok-from.ensures in
+    let o = c.in_ok-from.ensures in
     let v = c.in-Err.ensures in
     record {
       reads = (o.4 false ∙ ap (scanned c.args.self.now.line) v.reads.1, (refl, refl));
