@@ -18,5 +18,5 @@ judged shop list P rows (Err checkFault.Memory) a b j = tt
 
 pub returns : goal.returns
 returns c =
-    judged c.args.shop.now c.args.list.now (problem_of c.load.new.self) _ c.judge-rows.result c.in-ok-load.ensures.fills
-    (c.in-ok-rows.ensures ∙ ap Ok (sym c.as-slice.ensures.value)) c.judge-rows.ensures
+    judged c.args.shop.now c.args.list.now (problem_of c.load.new.self) _ c.judge_rows.result c.in_ok-load.ensures.fills
+    (c.in_ok-rows.ensures ∙ ap Ok (sym c.as_slice.ensures.value)) c.judge_rows.ensures

@@ -4,22 +4,22 @@ use Rattle.text.specs.declared.place.Place.{Place}
 use Rattle.problem.proofs.Entering.{list_refused, list_taken}
 use Rattle.problem.proofs.lines.list.Goals as goal
 
-pub returns-in-err-numbers : goal.returns-in-err-numbers
-returns-in-err-numbers c =
-    let p = err_from_is_err_and c.from-residual-in-err-numbers.result c.from-residual-in-err-numbers.ensures.1 in
-    let b = c.in-ok-list.ensures in
+pub returns-in_err-numbers : goal.returns-in_err-numbers
+returns-in_err-numbers c =
+    let p = err_from_is_err_and c.from_residual-in_err-numbers.result c.from_residual-in_err-numbers.ensures.1 in
+    let b = c.in_ok-list.ensures in
     let l-is = ap (λ (p : Place). p.line) c.place-line.ensures in
     simp (p.1, p.2) record {
-      reads = list_refused c.args.rule _ _ _ c.in-ok-entries.ensures b.fed _ _ _ _ _ _ _ b.reads l-is c.in-err-numbers.ensures;
+      reads = list_refused c.args.rule _ _ _ c.in_ok-entries.ensures b.fed _ _ _ _ _ _ _ b.reads l-is c.in_err-numbers.ensures;
       text = b.text;
     }
 
 pub returns : goal.returns
 returns c =
-    let b = c.in-ok-list.ensures in
-    let d = c.in-ok-numbers.ensures in
+    let b = c.in_ok-list.ensures in
+    let d = c.in_ok-numbers.ensures in
     let l-is = ap (λ (p : Place). p.line) c.place-line.ensures in
     record {
-      reads = list_taken c.args.rule _ _ _ c.in-ok-entries.ensures b.fed _ _ _ _ _ _ _ b.reads l-is d.2 d.1 (ap vec_items d.0);
+      reads = list_taken c.args.rule _ _ _ c.in_ok-entries.ensures b.fed _ _ _ _ _ _ _ b.reads l-is d.2 d.1 (ap vec_items d.0);
       text = b.text;
     }

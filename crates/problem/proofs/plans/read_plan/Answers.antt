@@ -9,45 +9,45 @@ use Rattle.problem.proofs.PlanReading.{shop_fails, count_fails, rows_fail, plan_
 use Rattle.problem.proofs.Texts.{methods_are, operators_are}
 use Rattle.problem.proofs.plans.read_plan.Goals as goal
 
-pub returns-in-err-read-shop : goal.returns-in-err-read-shop
+pub returns-in_err-read_shop : goal.returns-in_err-read_shop
 unfolding problem_of
-returns-in-err-read-shop c =
-    let p = err_from_is_err_and c.from-residual.result c.from-residual.ensures.1 in
+returns-in_err-read_shop c =
+    let p = err_from_is_err_and c.from_residual.result c.from_residual.ensures.1 in
     simp (p.1, p.2) (shop_fails (problem_of c.args.problem.now) c.args.room c.new-reader.result c.args.text.now c.new-reader.ensures.start c.new-reader.ensures.text
-    (plan_flaw_of c.in-err-read-shop.field-0.0) c.in-err-read-shop.ensures.reads)
+    (plan_flaw_of c.in_err-read_shop.field-0.0) c.in_err-read_shop.ensures.reads)
 
-pub returns-in-err-count : goal.returns-in-err-count
+pub returns-in_err-count : goal.returns-in_err-count
 unfolding problem_of
-returns-in-err-count c =
-    let p = err_from_is_err_and c.from-residual-in-err-count.result c.from-residual-in-err-count.ensures.1 in
+returns-in_err-count c =
+    let p = err_from_is_err_and c.from_residual-in_err-count.result c.from_residual-in_err-count.ensures.1 in
     simp (p.1, p.2) (count_fails (problem_of c.args.problem.now) c.args.room c.new-reader.result c.args.text.now c.new-reader.ensures.start c.new-reader.ensures.text
-    _ c.read-shop.new.reader c.in-ok-read-shop.ensures.reads (plan_flaw_of c.in-err-count.field-0.0) c.in-err-count.ensures.reads)
+    _ c.read_shop.new.reader c.in_ok-read_shop.ensures.reads (plan_flaw_of c.in_err-count.field-0.0) c.in_err-count.ensures.reads)
 
-pub returns-in-err-rows : goal.returns-in-err-rows
+pub returns-in_err-rows : goal.returns-in_err-rows
 unfolding problem_of
-returns-in-err-rows c =
-    let p = err_from_is_err_and c.from-residual-in-err-rows.result c.from-residual-in-err-rows.ensures.1 in
+returns-in_err-rows c =
+    let p = err_from_is_err_and c.from_residual-in_err-rows.result c.from_residual-in_err-rows.ensures.1 in
     simp (p.1, p.2) (rows_fail (problem_of c.args.problem.now) c.args.room c.new-reader.result c.args.text.now c.new-reader.ensures.start c.new-reader.ensures.text
-    _ c.read-shop.new.reader c.in-ok-read-shop.ensures.reads _ c.read-count.new.reader c.in-ok-count.ensures.reads
+    _ c.read_shop.new.reader c.in_ok-read_shop.ensures.reads _ c.read_count.new.reader c.in_ok-count.ensures.reads
     c.len.result c.len-2.result (c.len.ensures ∙ methods_are c.args.problem.now) (c.len-2.ensures ∙ operators_are c.args.problem.now)
-    (plan_flaw_of c.in-err-rows.field-0.0) c.in-err-rows.ensures.reads)
+    (plan_flaw_of c.in_err-rows.field-0.0) c.in_err-rows.ensures.reads)
 
-pub returns-in-err-finish : goal.returns-in-err-finish
+pub returns-in_err-finish : goal.returns-in_err-finish
 unfolding problem_of
-returns-in-err-finish c =
-    let p = err_from_is_err_and c.from-residual-in-err-finish.result c.from-residual-in-err-finish.ensures.1 in
-    let f = c.in-err-finish.ensures in
+returns-in_err-finish c =
+    let p = err_from_is_err_and c.from_residual-in_err-finish.result c.from_residual-in_err-finish.ensures.1 in
+    let f = c.in_err-finish.ensures in
     simp (p.1, p.2) (plan_read (problem_of c.args.problem.now) c.args.room c.new-reader.result c.args.text.now c.new-reader.ensures.start c.new-reader.ensures.text
-    _ c.read-shop.new.reader c.in-ok-read-shop.ensures.reads _ c.read-count.new.reader c.in-ok-count.ensures.reads
+    _ c.read_shop.new.reader c.in_ok-read_shop.ensures.reads _ c.read_count.new.reader c.in_ok-count.ensures.reads
     c.len.result c.len-2.result (c.len.ensures ∙ methods_are c.args.problem.now) (c.len-2.ensures ∙ operators_are c.args.problem.now)
-    _ c.read-rows.new.reader c.in-ok-rows.ensures.reads
-    ∙ goes_on _ c.read-rows.new.reader f.0 ∙ ap (λ (e : Refusal). Err (of_entry e)) (sym f.1))
+    _ c.read_rows.new.reader c.in_ok-rows.ensures.reads
+    ∙ goes_on _ c.read_rows.new.reader f.0 ∙ ap (λ (e : Refusal). Err (of_entry e)) (sym f.1))
 
 pub returns : goal.returns
 unfolding problem_of
 returns c =
     plan_read (problem_of c.args.problem.now) c.args.room c.new-reader.result c.args.text.now c.new-reader.ensures.start c.new-reader.ensures.text
-    _ c.read-shop.new.reader c.in-ok-read-shop.ensures.reads _ c.read-count.new.reader c.in-ok-count.ensures.reads
+    _ c.read_shop.new.reader c.in_ok-read_shop.ensures.reads _ c.read_count.new.reader c.in_ok-count.ensures.reads
     c.len.result c.len-2.result (c.len.ensures ∙ methods_are c.args.problem.now) (c.len-2.ensures ∙ operators_are c.args.problem.now)
-    _ c.read-rows.new.reader c.in-ok-rows.ensures.reads
-    ∙ ends_there _ c.read-rows.new.reader c.in-ok-finish.ensures
+    _ c.read_rows.new.reader c.in_ok-rows.ensures.reads
+    ∙ ends_there _ c.read_rows.new.reader c.in_ok-finish.ensures

@@ -12,7 +12,7 @@ returns-in-None g c =
     let p = c.args.problem.now in
     let fs = g.S.State.facts c.args.state.now in
     sym (ap (λ r. worked (problem_of p) r fs) c.in-Do.is
-    ∙ ap (λ (w : OperatorData). changed fs w.del w.add) (operator_none p c.in-Do.operator c.as-slice.result.now c.as-slice.ensures.value c.in-None.ensures.finds.3))
+    ∙ ap (λ (w : OperatorData). changed fs w.del w.add) (operator_none p c.in-Do.operator c.as_slice.result.now c.as_slice.ensures.value c.in-None.ensures.finds.3))
 
 pub returns-in-Some : goal.returns-in-Some
 returns-in-Some g c =
@@ -21,4 +21,4 @@ returns-in-Some g c =
     let f = c.in-Some.ensures.finds in
     c.apply.ensures
     ∙ sym (ap (λ r. worked (problem_of p) r fs) c.in-Do.is
-    ∙ ap (λ (w : OperatorData). changed fs w.del w.add) (operator_some p c.in-Do.operator c.in-Some.entry.now c.as-slice.result.now c.as-slice.ensures.value (ltb-true _ _ (sym f.0)) f.1))
+    ∙ ap (λ (w : OperatorData). changed fs w.del w.add) (operator_some p c.in-Do.operator c.in-Some.entry.now c.as_slice.result.now c.as_slice.ensures.value (ltb-true _ _ (sym f.0)) f.1))

@@ -27,8 +27,8 @@ returns g c =
     let large : large_enough (problem_of p) fs ≡ true = le-leb p.facts (length fs) (omega (arith, c.size.ensures, c.if-size-problem.false)) in
     record {
       after =
-          start_put (problem_of p) (keeps p) fs (g.S.State.facts c.clear.new.state) (g.S.State.facts c.set-all.new.state) p.facts c.as-slice.result.now
-          refl c.as-slice.ensures.value c.clear.ensures c.set-all.ensures
+          start_put (problem_of p) (keeps p) fs (g.S.State.facts c.clear.new.state) (g.S.State.facts c.set_all.new.state) p.facts c.as_slice.result.now
+          refl c.as_slice.ensures.value c.clear.ensures c.set_all.ensures
           ∙ sym (cond-true (large_enough (problem_of p) fs) (started (problem_of p) fs) fs large);
       value = sym (cond-true (large_enough (problem_of p) fs) (Ok tt) (Err StateLargeEnough) large);
     }

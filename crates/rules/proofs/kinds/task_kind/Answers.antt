@@ -8,4 +8,4 @@ pub returns : goal.returns
 unfolding problem_of
 returns c =
     let p = c.args.problem.now in
-    c.kind-among.ensures ∙ ap (λ n. kind_among n p.tasks c.args.task) (c.len.ensures ∙ operators_are p)
+    c.kind_among.ensures ∙ ap (λ n. kind_among n p.tasks c.args.task) (c.len.ensures ∙ operators_are p)

@@ -29,8 +29,8 @@ returns-in-61 c =
           ∙ cond-true (eqb (get_or c.args.text.now (length c.args.key.now) 0) 61) _ _ (eq-eqb _ 61 c.in-61.is);
     }
 
-pub returns-in-default : goal.returns-in-default
-returns-in-default c =
+pub returns-in_default : goal.returns-in_default
+returns-in_default c =
     let e : c.loop-i.i ≡ length c.args.key.now = omega arith in
     record {
       within = λ (e : false ≡ true). absurd (false≢true e);

@@ -8,11 +8,11 @@ returns g t c =
     elim c.if-n-ge1000.branch [
       | then-n-ge1000 w ↦
           feeds_decimal g.S.Sink.takes _ _ c.if-n-ge1000.sink _ c.args.n _ (omega (arith, w.if-n-ge1000.true)) (omega arith)
-          c.last-digit.ensures w.put-number.ensures w.sink-is c.push.ensures
+          c.last_digit.ensures w.put_number.ensures w.sink-is c.push.ensures
       | else-n-ge1000+then-n-ge10 w ↦
           feeds_decimal g.S.Sink.takes _ _ c.if-n-ge1000.sink _ c.args.n _ w.if-n-ge10.true (omega arith)
-          c.last-digit.ensures w.put-short.ensures w.sink-is c.push.ensures
+          c.last_digit.ensures w.put_short.ensures w.sink-is c.push.ensures
       | else-n-ge1000+else-n-ge10 w ↦
           feeds_digit g.S.Sink.takes _ c.if-n-ge1000.sink _ c.args.n _ w.if-n-ge10.false
-          c.last-digit.ensures w.sink-is c.push.ensures
+          c.last_digit.ensures w.sink-is c.push.ensures
     ]

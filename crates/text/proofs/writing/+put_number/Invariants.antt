@@ -1,4 +1,4 @@
 use Rattle.text.proofs.writing.+put_number.Given as goal
 
-abbrev pub decreases-put-number : goal.decreases-put_number
-decreases-put-number g l = l.n
+abbrev pub decreases-put_number : goal.decreases-put_number
+decreases-put_number g l = l.n

@@ -8,8 +8,8 @@ returns-then-room g c =
     let f = room_fed _ (g.R.Render.text c.args.what.now) c.render.new.sink c.render.ensures in
     (refl, ltb-true _ _ (sym f.1 ∙ c.if-room.true))
 
-pub overflow-sub-result : goal.overflow-sub-result
-overflow-sub-result g c =
+pub overflow_sub-result : goal.overflow_sub-result
+overflow_sub-result g c =
     let f = room_fed _ (g.R.Render.text c.args.what.now) c.render.new.sink c.render.ensures in
     omega (arith, f.0)
 

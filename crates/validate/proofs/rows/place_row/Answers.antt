@@ -21,8 +21,8 @@ returns c =
     let P = problem_of c.args.problem.now in
     let sub = sub_of P c.args.row in
     let behind = stacked c.args.entries.now c.args.behind in (
-      c.push-all.ensures.opened ∙ ap (λ xs. at_level c.saturating-add.result xs ++ behind) c.subtasks-sub.ensures
-          ∙ ap (λ xs. xs ++ behind) (level_stops c.args.task.level c.saturating-add.result sub c.requires.level c.saturating-add.ensures),
-      omega (arith, c.push-all.ensures.used, c.if-sub-left.false, c.if-behind-left.false),
+      c.push_all.ensures.opened ∙ ap (λ xs. at_level c.saturating_add.result xs ++ behind) c.subtasks-sub.ensures
+          ∙ ap (λ xs. xs ++ behind) (level_stops c.args.task.level c.saturating_add.result sub c.requires.level c.saturating_add.ensures),
+      omega (arith, c.push_all.ensures.used, c.if-sub-left.false, c.if-behind-left.false),
       omega (arith, placed_long (c.args.task.level + 1) sub c.args.entries.now c.args.behind c.requires.held, ap length c.subtasks-sub.ensures, c.if-sub-left.false, c.if-behind-left.false),
     )

@@ -8,16 +8,16 @@ use Rattle.views.proofs.Drawing.{tree_of}
 use Rattle.views.proofs.Written.{text_of, tree_no, tree_yes, tree_short}
 use Rattle.views.proofs.tree.write_tree.Goals as goal
 
-pub returns-in-err-check-decomposition : goal.returns-in-err-check-decomposition
-returns-in-err-check-decomposition c =
+pub returns-in_err-check_decomposition : goal.returns-in_err-check_decomposition
+returns-in_err-check_decomposition c =
     let P = problem_of c.args.problem.now in
     let rows = c.args.rows.now in
     let bytes = c.args.bytes.now in
-    let e = c.in-err-check-decomposition.field-0.0 in
-    let p = err_from_is_err_and c.from-residual.result c.from-residual.ensures.1 in
-    let r : c.from-residual.result ≡ Err e = p.1 ∙ ap Err p.2 in
+    let e = c.in_err-check_decomposition.field-0.0 in
+    let p = err_from_is_err_and c.from_residual.result c.from_residual.ensures.1 in
+    let r : c.from_residual.result ≡ Err e = p.1 ∙ ap Err p.2 in
     record {
-      answers = subst (Answers (tree_asked P rows (length bytes)) (length (tree_text P rows))) (sym r) (tree_no P rows (length bytes) e c.in-err-check-decomposition.ensures);
+      answers = subst (Answers (tree_asked P rows (length bytes)) (length (tree_text P rows))) (sym r) (tree_no P rows (length bytes) e c.in_err-check_decomposition.ensures);
       leaves = subst (λ x. Leaves (tree_text P rows) bytes x bytes) (sym r) refl;
       within = subst (λ x. IfOk x (λ (n : ℕ). n ≤ length bytes)) (sym r) tt;
       tree = subst (λ x. IfOk x (λ (n : ℕ). Tree P rows (tree_text P rows))) (sym r) tt;
@@ -30,8 +30,8 @@ returns-in-Ok c =
     let bytes = c.args.bytes.now in
     let later = c.write.new.bytes in
     let n = c.in-Ok.count in
-    let passes = c.in-ok-check-decomposition.ensures.0 in
-    let is = text_of c.args.problem.now rows passes c.as-slice.result.now (c.as-slice.ensures.value ∙ c.in-ok-nodes.ensures) in
+    let passes = c.in_ok-check_decomposition.ensures.0 in
+    let is = text_of c.args.problem.now rows passes c.as_slice.result.now (c.as_slice.ensures.value ∙ c.in_ok-nodes.ensures) in
     let wrote : Written (tree_text P rows) bytes later (Ok n) = subst (λ (t : List ℕ). Written t bytes later (Ok n)) is c.in-Ok.ensures in
     record {
       answers = tree_yes P rows passes bytes later n wrote;
@@ -47,7 +47,7 @@ returns c =
     let bytes = c.args.bytes.now in
     let later = c.write.new.bytes in
     let q = c.in-Err.question in
-    let passes = c.in-ok-check-decomposition.ensures.0 in
-    let is = text_of c.args.problem.now rows passes c.as-slice.result.now (c.as-slice.ensures.value ∙ c.in-ok-nodes.ensures) in
+    let passes = c.in_ok-check_decomposition.ensures.0 in
+    let is = text_of c.args.problem.now rows passes c.as_slice.result.now (c.as_slice.ensures.value ∙ c.in_ok-nodes.ensures) in
     let short : Written (tree_text P rows) bytes later (Err q) = subst (λ (t : List ℕ). Written t bytes later (Err q)) is c.in-Err.ensures in
     record { answers = tree_short P rows passes bytes later q short; leaves = short.2; within = tt; tree = tt }

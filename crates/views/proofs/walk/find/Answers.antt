@@ -19,7 +19,7 @@ loop-index-preserved c =
     let rows = c.args.rows.now in
     let i = c.loop-index.index in
     c.loop-index.invariant ∙ at_drop_more (first_stop c.args.place (i + 1)) rows i (By 0) c.loop-index-test.true
-    ∙ ap (λ o. or_else o (first_stop c.args.place (i + 1 + 1) (drop (i + 1) rows))) (sym c.in-default.ensures)
+    ∙ ap (λ o. or_else o (first_stop c.args.place (i + 1 + 1) (drop (i + 1) rows))) (sym c.in_default.ensures)
 
 pub returns : goal.returns
 returns c =

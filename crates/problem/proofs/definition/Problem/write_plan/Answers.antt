@@ -21,10 +21,10 @@ returns-in-Ok c =
     let p = c.args.self.now in
     record {
       writes = plan_wrote (problem_of p) c.args.rows.now c.if-rows-gt2000.false c.len.result c.len-2.result (c.len.ensures ∙ methods_are p) (c.len-2.ensures ∙ operators_are p)
-          c.in-default.ensures c.args.bytes.now c.write.new.bytes c.in-Ok.count c.in-Ok.ensures;
+          c.in_default.ensures c.args.bytes.now c.write.new.bytes c.in-Ok.count c.in-Ok.ensures;
       within = c.in-Ok.ensures.1;
       loads-back = plan_loads_lem (problem_of p) c.args.rows.now c.if-rows-gt2000.false c.len.result c.len-2.result (c.len.ensures ∙ methods_are p) (c.len-2.ensures ∙ operators_are p)
-          c.in-default.ensures (keeps p) c.args.bytes.now c.write.new.bytes c.in-Ok.count c.in-Ok.ensures;
+          c.in_default.ensures (keeps p) c.args.bytes.now c.write.new.bytes c.in-Ok.count c.in-Ok.ensures;
     }
 
 pub returns-in-Err : goal.returns-in-Err
@@ -33,7 +33,7 @@ returns-in-Err c =
     let p = c.args.self.now in
     record {
       writes = plan_short (problem_of p) c.args.rows.now c.if-rows-gt2000.false c.len.result c.len-2.result (c.len.ensures ∙ methods_are p) (c.len-2.ensures ∙ operators_are p)
-          c.in-default.ensures c.args.bytes.now c.write.new.bytes c.in-Err.question c.in-Err.ensures;
+          c.in_default.ensures c.args.bytes.now c.write.new.bytes c.in-Err.question c.in-Err.ensures;
       within = tt;
       loads-back = tt;
     }

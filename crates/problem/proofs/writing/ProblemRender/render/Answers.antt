@@ -8,8 +8,8 @@ pub returns : goal.returns
 returns g c =
     let takes = g.S.Sink.takes in
     let p = c.args.self.now in
-    fed_append takes c.args.sink.now (head_bytes p) c.head-lines.new.sink (each operator_bytes (vec_items p.operators) ++ each method_bytes (vec_items p.methods)) c.put-all-2.new.sink
-    c.head-lines.ensures
-    (fed_append takes c.head-lines.new.sink (each operator_bytes (vec_items p.operators)) c.put-all.new.sink (each method_bytes (vec_items p.methods)) c.put-all-2.new.sink
-    (fed_is takes _ _ _ _ (ap (each operator_bytes) c.as-slice.ensures.value) c.put-all.ensures.alone)
-    (fed_is takes _ _ _ _ (ap (each method_bytes) c.as-slice-2.ensures.value) c.put-all-2.ensures.alone))
+    fed_append takes c.args.sink.now (head_bytes p) c.head_lines.new.sink (each operator_bytes (vec_items p.operators) ++ each method_bytes (vec_items p.methods)) c.put_all-2.new.sink
+    c.head_lines.ensures
+    (fed_append takes c.head_lines.new.sink (each operator_bytes (vec_items p.operators)) c.put_all.new.sink (each method_bytes (vec_items p.methods)) c.put_all-2.new.sink
+    (fed_is takes _ _ _ _ (ap (each operator_bytes) c.as_slice.ensures.value) c.put_all.ensures.alone)
+    (fed_is takes _ _ _ _ (ap (each method_bytes) c.as_slice-2.ensures.value) c.put_all-2.ensures.alone))

@@ -9,5 +9,5 @@ returns c =
     let s = c.args.self.now in
     let ns = vec_items s.held in
     let below = below_counted (listed ns) s.size c.args.fact c.requires in
-    let has = tells_listed ns _ c.args.fact _ s.rising c.deref.ensures.value c.binary-search.ensures.position in
-    ap Some (c.is-ok.ensures.value ∙ has) ∙ nth_counted (listed ns) _ _ below
+    let has = tells_listed ns _ c.args.fact _ s.rising c.deref.ensures.value c.binary_search.ensures.position in
+    ap Some (c.is_ok.ensures.value ∙ has) ∙ nth_counted (listed ns) _ _ below

@@ -14,8 +14,8 @@ below s k h = s.below k (omega arith)
 room : (s : SparseState) (x i : ℕ) → FitsAt (vec_items s.held) i x → x < s.size → vec_len s.held < vec_capacity s.held
 room s x i at h = let one = spare (vec_items s.held) s.size x i s.rising at h (below s) in omega arith
 
-pub invariant-of-self : goal.invariant-of-self
-invariant-of-self c =
+pub invariant_of-self : goal.invariant_of-self
+invariant_of-self c =
     let s = c.args.self.now in
     let ns = vec_items s.held in
     let i = c.in-Err.place in
@@ -59,10 +59,10 @@ returns-in-Err c =
     c.insert.ensures.items ∙ ap (λ b. cond b (insert ns i x) ns) (c.insert.ensures.succeeds (room s x i at h)) in
     adds ns _ s.size x i h is
 
-pub returns-in-default : goal.returns-in-default
-returns-in-default c =
+pub returns-in_default : goal.returns-in_default
+returns-in_default c =
     let s = c.args.self.now in
     let ns = vec_items s.held in
     let h = below_counted (listed ns) s.size c.args.fact c.requires in
-    let f = found ns _ c.args.fact c.in-default.field-0 s.rising c.deref.ensures.value c.in-default.ensures.position in
-    stays ns s.size c.args.fact _ h (has_at ns c.in-default.field-0 c.args.fact f.0 f.1)
+    let f = found ns _ c.args.fact c.in_default.field-0 s.rising c.deref.ensures.value c.in_default.ensures.position in
+    stays ns s.size c.args.fact _ h (has_at ns c.in_default.field-0 c.args.fact f.0 f.1)

@@ -12,10 +12,10 @@ returns-in-Ok c =
     let f = found ns _ c.args.fact c.in-Ok.place s.rising c.deref.ensures.value c.in-Ok.ensures.position in
     takes ns _ s.size c.args.fact c.in-Ok.place s.rising h f c.remove.ensures.items
 
-pub returns-in-default : goal.returns-in-default
-returns-in-default c =
+pub returns-in_default : goal.returns-in_default
+returns-in_default c =
     let s = c.args.self.now in
     let ns = vec_items s.held in
     let h = below_counted (listed ns) s.size c.args.fact c.requires in
-    let at = missing ns _ c.args.fact c.in-default.field-0 s.rising c.deref.ensures.value c.in-default.ensures.position in
-    stays ns s.size c.args.fact _ h (lacks ns c.in-default.field-0 c.args.fact at)
+    let at = missing ns _ c.args.fact c.in_default.field-0 s.rising c.deref.ensures.value c.in_default.ensures.position in
+    stays ns s.size c.args.fact _ h (lacks ns c.in_default.field-0 c.args.fact at)

@@ -5,10 +5,10 @@ use Rattle.text.proofs.FedLaws.{fed_start, fed_is}
 use Rattle.text.proofs.Viable.{stops_value}
 use Rattle.text.proofs.cursor.Reader.list.Goals as goal
 
-pub returns-in-err-from : goal.returns-in-err-from
-returns-in-err-from g c =
-    let p = err_from_is_err_and c.from-residual.result c.from-residual.ensures.1 in
-    let o = c.in-err-from.ensures in
+pub returns-in_err-from : goal.returns-in_err-from
+returns-in_err-from g c =
+    let p = err_from_is_err_and c.from_residual.result c.from_residual.ensures.1 in
+    let o = c.in_err-from.ensures in
     simp (p.1, p.2) record {
       reads = (o.0 true, (refl, refl));
       fed = fed_is g.V.Numbers.takes _ _ _ _ (sym (o.1 true)) (fed_start g.V.Numbers.takes _);
