@@ -35,7 +35,7 @@ impl Render for Method {
 }
 
 fn head_lines<S: Sink>(sink: &mut S, p: &Problem)
-    ensures { Fed takes sink.old (head_bytes p.now) sink.new }
+    ensures { Fed S.takes sink.old (head_bytes p.now) sink.new }
 {
     number_line(sink, b"shop", p.number as usize);
     number_line(sink, b"facts", p.facts as usize);

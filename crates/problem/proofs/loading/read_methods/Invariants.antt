@@ -10,5 +10,5 @@ use Rattle.problem.proofs.loading.read_methods.Given as goal
 abbrev pub invariant-loop-i : goal.invariant-loop-i
 invariant-loop-i l =
     ((times l.n (method l.facts l.ops l.tasks)).read l.initial.reader.line l.initial.reader.byte (left l.initial.reader)
-    ≡ ahead (methods_of l.all) (read_all (method l.facts l.ops l.tasks).read (l.n - l.-i) l.reader.line l.reader.byte (left l.reader)))
+    ≡ ahead (methods_of l.all) (read_all (method l.facts l.ops l.tasks).read (l.n - l._i) l.reader.line l.reader.byte (left l.reader)))
     × (l.reader.text.now ≡ l.initial.reader.text.now)

@@ -10,5 +10,5 @@ use Rattle.problem.proofs.loading.read_operators.Given as goal
 abbrev pub invariant-loop-i : goal.invariant-loop-i
 invariant-loop-i l =
     ((times l.n (operator l.facts)).read l.initial.reader.line l.initial.reader.byte (left l.initial.reader)
-    ≡ ahead (operators_of l.all) (read_all (operator l.facts).read (l.n - l.-i) l.reader.line l.reader.byte (left l.reader)))
+    ≡ ahead (operators_of l.all) (read_all (operator l.facts).read (l.n - l._i) l.reader.line l.reader.byte (left l.reader)))
     × (l.reader.text.now ≡ l.initial.reader.text.now)

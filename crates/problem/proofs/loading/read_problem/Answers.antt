@@ -38,7 +38,7 @@ invariant_of-result c =
     let read = all_read c.new-reader.result c.args.text.now c.new-reader.ensures.start c.new-reader.ensures.text _ c.read_head.new.reader c.in_ok-head.ensures.reads
     _ c.read_operators.new.reader c.in_ok-operators.ensures.reads _ c.read_methods.new.reader c.in_ok-methods.ensures.reads
     ∙ ends_there _ c.read_methods.new.reader c.in_ok-finish.ensures in
-    ((file_back c.args.text.now _ read).0, tt)
+    record { legal = (file_back c.args.text.now _ read).0 }
 
 pub returns : goal.returns
 unfolding problem_of

@@ -9,5 +9,5 @@ use Rattle.problem.proofs.plans.read_rows.Given as goal
 abbrev pub invariant-loop-i : goal.invariant-loop-i
 invariant-loop-i l =
     ((times l.n (row l.methods l.ops)).read l.initial.reader.line l.initial.reader.byte (left l.initial.reader)
-    ≡ ahead (vec_items l.all) (read_all (row l.methods l.ops).read (l.n - l.-i) l.reader.line l.reader.byte (left l.reader)))
+    ≡ ahead (vec_items l.all) (read_all (row l.methods l.ops).read (l.n - l._i) l.reader.line l.reader.byte (left l.reader)))
     × (l.reader.text.now ≡ l.initial.reader.text.now)

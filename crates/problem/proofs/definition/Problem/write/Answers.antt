@@ -9,4 +9,4 @@ pub returns : goal.returns
 returns c =
     let p = c.args.self.now in
     let w : Written (text_of (problem_of p)) c.args.bytes.now c.write.new.bytes c.write.result = subst (λ (t : List ℕ). Written t c.args.bytes.now c.write.new.bytes c.write.result) (bytes_are p) c.write.ensures in
-    record { writes = w; never-longer = always_fits p c.args.bytes.now c.write.new.bytes c.write.result w; loads-back = written_back p c.args.bytes.now c.write.new.bytes c.write.result w }
+    record { writes = w; never_longer = always_fits p c.args.bytes.now c.write.new.bytes c.write.result w; loads_back = written_back p c.args.bytes.now c.write.new.bytes c.write.result w }

@@ -12,7 +12,7 @@ returns-in-Some c =
       writes = row_refused (problem_of p) c.args.rows.now c.if-rows-gt2000.false c.len.result c.len-2.result (c.len.ensures ∙ methods_are p) (c.len-2.ensures ∙ operators_are p)
           c.in-Some.row (plan_text (problem_of p) c.args.rows.now) c.args.bytes.now c.in-Some.ensures;
       within = tt;
-      loads-back = tt;
+      loads_back = tt;
     }
 
 pub returns-in-Ok : goal.returns-in-Ok
@@ -23,7 +23,7 @@ returns-in-Ok c =
       writes = plan_wrote (problem_of p) c.args.rows.now c.if-rows-gt2000.false c.len.result c.len-2.result (c.len.ensures ∙ methods_are p) (c.len-2.ensures ∙ operators_are p)
           c.in_default.ensures c.args.bytes.now c.write.new.bytes c.in-Ok.count c.in-Ok.ensures;
       within = c.in-Ok.ensures.1;
-      loads-back = plan_loads_lem (problem_of p) c.args.rows.now c.if-rows-gt2000.false c.len.result c.len-2.result (c.len.ensures ∙ methods_are p) (c.len-2.ensures ∙ operators_are p)
+      loads_back = plan_loads_lem (problem_of p) c.args.rows.now c.if-rows-gt2000.false c.len.result c.len-2.result (c.len.ensures ∙ methods_are p) (c.len-2.ensures ∙ operators_are p)
           c.in_default.ensures (keeps p) c.args.bytes.now c.write.new.bytes c.in-Ok.count c.in-Ok.ensures;
     }
 
@@ -35,5 +35,5 @@ returns-in-Err c =
       writes = plan_short (problem_of p) c.args.rows.now c.if-rows-gt2000.false c.len.result c.len-2.result (c.len.ensures ∙ methods_are p) (c.len-2.ensures ∙ operators_are p)
           c.in_default.ensures c.args.bytes.now c.write.new.bytes c.in-Err.question c.in-Err.ensures;
       within = tt;
-      loads-back = tt;
+      loads_back = tt;
     }

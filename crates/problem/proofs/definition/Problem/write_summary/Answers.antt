@@ -1,16 +1,11 @@
-use Rattle.std.proofs.Common.{◌≡◌, ℕ, Bool, List, length, Decides, subst, rules}
+use Rattle.std.proofs.Common.{◌≡◌, ℕ, Bool, List, length, subst, rules}
 use Rattle.std.specs.Str.{bytes_eq}
-use Rattle.std.proofs.lemmas.Slice.Eq.{slice_eq-Decides, bytes_eq-Decides}
 use Rattle.text.specs.Rendered.{Written}
 use Rattle.problem.specs.declared.definition.Problem.{Problem}
 use Rattle.problem.specs.Loaded.{problem_of}
 use Rattle.problem.specs.Reports.{summary_lines, summary}
 use Rattle.problem.proofs.Texts.{operators_are, methods_are}
 use Rattle.problem.proofs.definition.Problem.write_summary.Goals as goal
-use Rattle.std.proofs.lemmas.Bool.Decides.{Decides-eqb}
-
-same_is : (xs ys : List ℕ) (r : Bool) → Decides r (xs ≡ ys) → r ≡ bytes_eq xs ys
-same_is xs ys r h = search (rules, bytes_eq-Decides)
 
 lines_are : (p : Problem) (text back : List ℕ) (same : Bool) → same ≡ bytes_eq text back
     → summary_lines p.number p.facts p.operators.len p.tasks p.methods.len p.first.len (length text) same ≡ summary (problem_of p) text back
@@ -19,5 +14,6 @@ lines_are p text back same e = λ i. summary_lines p.number p.facts (operators_a
 
 pub returns : goal.returns
 returns c =
+    let same : c.eq-same.result ≡ bytes_eq c.args.text.now c.args.back.now = search rules in
     subst (λ (t : List ℕ). Written t c.args.bytes.now c.write.new.bytes c.write.result)
-    (lines_are c.args.self.now c.args.text.now c.args.back.now c.eq-same.result (same_is _ _ _ (slice_eq-Decides Decides-eqb _ _ _ c.eq-same.ensures))) c.write.ensures
+    (lines_are c.args.self.now c.args.text.now c.args.back.now c.eq-same.result same) c.write.ensures

@@ -23,21 +23,15 @@ invariant_of-self c =
     let h = below_counted (listed ns) s.size x c.requires in
     let at = missing ns _ x i s.rising c.deref.ensures.value c.in-Err.ensures.position in
     let is : vec_items c.insert.new.self ≡ insert ns i x =
-    c.insert.ensures.items ∙ ap (λ b. cond b (insert ns i x) ns) (c.insert.ensures.succeeds (room s x i at h)) in (
-      s.small,
-      (
-        omega arith,
-        (
-          subst IsStrictlyIncreasing (sym is) (climbs_inserted ns i x s.rising at),
-          (
-            (λ k l.
-                let long : k < length (insert ns i x) = omega (arith, ap length is) in
-                omega (arith, ap (λ zs. get_or zs k 0) is, inserted_below ns i x s.size at.0 h (below s) k long)),
-            tt,
-          ),
-        ),
-      ),
-    )
+    c.insert.ensures.items ∙ ap (λ b. cond b (insert ns i x) ns) (c.insert.ensures.succeeds (room s x i at h)) in
+    record {
+      small = s.small;
+      room = omega arith;
+      rising = subst IsStrictlyIncreasing (sym is) (climbs_inserted ns i x s.rising at);
+      below = λ k l.
+          let long : k < length (insert ns i x) = omega (arith, ap length is) in
+          omega (arith, ap (λ zs. get_or zs k 0) is, inserted_below ns i x s.size at.0 h (below s) k long);
+    }
 
 pub unwrap-requires : goal.unwrap-requires
 unwrap-requires c =
