@@ -11,20 +11,20 @@ use problem::{Method, Operator, Problem, Row};
 use state::State;
 
 fn is_applicable<S: State>(operator: &Operator, state: &S) -> bool
-    ensures { result ≡ conditions (facts state.now) operator.now.yes.items operator.now.no.items }
+    ensures { result ≡ conditions (S.facts state.now) operator.now.yes.items operator.now.no.items }
 {
     conditions_hold(state, operator.yes.as_slice(), operator.no.as_slice())
 }
 
 fn is_usable<S: State>(method: &Method, state: &S) -> bool
-    ensures { result ≡ conditions (facts state.now) method.now.yes.items method.now.no.items }
+    ensures { result ≡ conditions (S.facts state.now) method.now.yes.items method.now.no.items }
 {
     conditions_hold(state, method.yes.as_slice(), method.no.as_slice())
 }
 
 // Whether the conditions of the row's operator or method hold. They speak of the problem's facts alone.
 pub fn is_enabled<S: State>(problem: &Problem, row: Row, state: &S) -> bool
-    ensures { result ≡ enabled (problem_of problem.now) row (take (problem_of problem.now).facts (facts state.now)) }
+    ensures { result ≡ enabled (problem_of problem.now) row (take (problem_of problem.now).facts (S.facts state.now)) }
 {
     match row {
         Row::Do(operator) => match problem.operators.as_slice().get(operator as usize) {

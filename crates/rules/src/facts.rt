@@ -11,14 +11,14 @@ use state::State;
 
 // Whether the fact holds; one that the state does not have does not.
 fn is_held<S: State>(state: &S, fact: u16) -> bool
-    ensures { result ≡ holds (facts state.now) fact }
+    ensures { result ≡ holds (S.facts state.now) fact }
 {
     state.get(fact).unwrap_or(false)
 }
 
 // Whether each fact of `yes` holds on the state, and none of `no`.
 pub fn conditions_hold<S: State>(state: &S, yes: &[u16], no: &[u16]) -> bool
-    ensures { result ≡ conditions (facts state.now) yes.now no.now }
+    ensures { result ≡ conditions (S.facts state.now) yes.now no.now }
 {
     for fact in yes {
         if !is_held(state, *fact) {
@@ -35,7 +35,7 @@ pub fn conditions_hold<S: State>(state: &S, yes: &[u16], no: &[u16]) -> bool
 
 // Puts the value at each of the facts. One that the state does not have is refused there, and changes nothing.
 fn set_all<S: State>(state: &mut S, listed: &[u16], value: bool)
-    ensures { facts state.new ≡ assigned value (facts state.old) listed.now }
+    ensures { S.facts state.new ≡ assigned value (S.facts state.old) listed.now }
 {
     for fact in listed {
         let _ = state.set(*fact, value);
@@ -44,7 +44,7 @@ fn set_all<S: State>(state: &mut S, listed: &[u16], value: bool)
 
 // Clears what the operator deletes, and then sets what it adds: a fact in both holds afterwards.
 fn apply<S: State>(state: &mut S, operator: &Operator)
-    ensures { facts state.new ≡ changed (facts state.old) operator.now.del.items operator.now.add.items }
+    ensures { S.facts state.new ≡ changed (S.facts state.old) operator.now.del.items operator.now.add.items }
 {
     set_all(state, operator.del.as_slice(), false);
     set_all(state, operator.add.as_slice(), true);
@@ -52,7 +52,7 @@ fn apply<S: State>(state: &mut S, operator: &Operator)
 
 // Does the row's work on the state: that of its operator, and nothing where it splits a task.
 pub fn perform<S: State>(problem: &Problem, row: Row, state: &mut S)
-    ensures { facts state.new ≡ worked (problem_of problem.now) row (facts state.old) }
+    ensures { S.facts state.new ≡ worked (problem_of problem.now) row (S.facts state.old) }
 {
     match row {
         Row::By(_) => {}
@@ -65,8 +65,8 @@ pub fn perform<S: State>(problem: &Problem, row: Row, state: &mut S)
 
 // No fact below the count holds any more.
 fn clear<S: State>(state: &mut S, count: u16)
-    requires { count ≤ length (facts state.old) }
-    ensures { facts state.new ≡ replicate count false ++ drop count (facts state.old) }
+    requires { count ≤ length (S.facts state.old) }
+    ensures { S.facts state.new ≡ replicate count false ++ drop count (S.facts state.old) }
 {
     for fact in 0..count {
         let _ = state.set(fact, false);
@@ -75,8 +75,8 @@ fn clear<S: State>(state: &mut S, count: u16)
 
 // Puts the problem's start facts on the state; those beyond the problem's stay. A state with too few facts is refused, and left.
 pub fn put_start<S: State>(problem: &Problem, state: &mut S) -> Result<(), Question>
-    ensures after { facts state.new ≡ start_leaves (problem_of problem.now) (facts state.old) }
-    ensures value { result ≡ start_answer (problem_of problem.now) (facts state.old) }
+    ensures after { S.facts state.new ≡ start_leaves (problem_of problem.now) (S.facts state.old) }
+    ensures value { result ≡ start_answer (problem_of problem.now) (S.facts state.old) }
 {
     if state.size() < problem.facts {
         return Err(Question::StateLargeEnough);

@@ -23,7 +23,7 @@ fn ask_row<S: State>(
     state: &S,
     task: OpenTask,
 ) -> Result<(), RowFault>
-    ensures { result ≡ first_no (task_asked (problem_of problem.now) conditions levels number row (take (problem_of problem.now).facts (facts state.now)) task) }
+    ensures { result ≡ first_no (task_asked (problem_of problem.now) conditions levels number row (take (problem_of problem.now).facts (S.facts state.now)) task) }
 {
     if !is_for(problem, row, task.task) {
         return Err(RowFault {
@@ -91,8 +91,8 @@ fn check_row<S: State>(
 ) -> Result<usize, RowFault>
     requires room { left ≤ length entries.old }
     requires held { used ≤ length entries.old }
-    ensures answer { Checked (problem_of problem.now) conditions levels number left row (place_of (problem_of problem.now) (facts state.old) entries.old used) (place_of (problem_of problem.now) (facts state.new) entries.new) result }
-    ensures kept { Kept (problem_of problem.now) (facts state.old) (facts state.new) }
+    ensures answer { Checked (problem_of problem.now) conditions levels number left row (place_of (problem_of problem.now) (S.facts state.old) entries.old used) (place_of (problem_of problem.now) (S.facts state.new) entries.new) result }
+    ensures kept { Kept (problem_of problem.now) (S.facts state.old) (S.facts state.new) }
 {
     if used == 0 {
         return Err(RowFault {
@@ -117,8 +117,8 @@ pub(crate) fn check_rows<S: State>(
     entries: &mut [OpenTask],
 ) -> Result<(), RowFault>
     requires { length rows.now ≤ length entries.old }
-    ensures answer { result ≡ first_no (following_from (problem_of problem.now) conditions levels rows.now (take (problem_of problem.now).facts (facts state.old))) }
-    ensures kept { Kept (problem_of problem.now) (facts state.old) (facts state.new) }
+    ensures answer { result ≡ first_no (following_from (problem_of problem.now) conditions levels rows.now (take (problem_of problem.now).facts (S.facts state.old))) }
+    ensures kept { Kept (problem_of problem.now) (S.facts state.old) (S.facts state.new) }
 {
     if problem.first.len() > rows.len() {
         return Err(RowFault {

@@ -22,9 +22,9 @@ pub fn validate<S: State>(
     limits: Limits,
     state: &mut S,
 ) -> Result<usize, Fault>
-    ensures answer { Answers (asked (problem_of problem.now) limits (length (facts state.old)) rows.now) (length rows.now) result }
-    ensures leaves { Leaves (problem_of problem.now) limits rows.now (facts state.old) result (facts state.new) }
-    ensures exactly { Validates (problem_of problem.now) limits (length (facts state.old)) rows.now }
+    ensures answer { Answers (asked (problem_of problem.now) limits (length (S.facts state.old)) rows.now) (length rows.now) result }
+    ensures leaves { Leaves (problem_of problem.now) limits rows.now (S.facts state.old) result (S.facts state.new) }
+    ensures exactly { Validates (problem_of problem.now) limits (length (S.facts state.old)) rows.now }
 {
     check_limits(limits, problem.facts, state.size(), rows.len())?;
     check_numbers(problem, rows)?;

@@ -10,11 +10,11 @@ pub returns-in-None : goal.returns-in-None
 returns-in-None c =
     let p = c.args.problem.now in
     sym (ap (target_of (problem_of p)) c.in-By.is
-    ∙ ap (λ (w : MethodData). w.task) (method_none p c.in-By.method c.as_slice.result.now c.as_slice.ensures.value c.in-None.ensures.finds.3))
+    ∙ ap (λ (w : MethodData). w.task) (method_none p c.in-By.method c.as_slice.result.now c.as_slice.ensures.value c.in-None.ensures.lookup.3))
 
 pub returns-in-Some : goal.returns-in-Some
 returns-in-Some c =
     let p = c.args.problem.now in
-    let f = c.in-Some.ensures.finds in
+    let f = c.in-Some.ensures.lookup in
     sym (ap (target_of (problem_of p)) c.in-By.is
     ∙ ap (λ (w : MethodData). w.task) (method_some p c.in-By.method c.in-Some.entry.now c.as_slice.result.now c.as_slice.ensures.value (ltb-true _ _ (sym f.0)) f.1))
