@@ -61,7 +61,7 @@ fn place(whole: &[u8], part: &[u8]) -> usize
 // The base with its first `old` replaced.
 pub fn edited(heap: Global, base: &[u8], old: &[u8], new: &[u8]) -> Result<Vec<u8>, AllocError> {
     let after = plain(heap, new)?;
-    if old == b"*" {
+    if old == b"*".as_slice() {
         return Ok(after);
     }
     let before = plain(heap, old)?;

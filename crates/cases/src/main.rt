@@ -24,7 +24,7 @@ fn run_case(rt: &HostRuntime, line: &[u8]) -> anyhow::Result<()> {
     let (new, name) = parts(rest, b'|');
     let mut out = rt.stdout();
     out.write_all(name)?;
-    if kind == b"shop" {
+    if kind == b"shop".as_slice() {
         let text = edited(rt.alloc(), SHOP, old, new)?;
         return load_shop(rt, SHOP, text.as_slice());
     }

@@ -1,6 +1,6 @@
 // A problem file and a plan text, judged.
 ghost use Rattle.problem.specs.Loaded.{problem_of};
-ghost use Rattle.check.specs.Judging.{RowsLoaded, RowsJudged, Judges};
+ghost use Rattle.checker.specs.Judging.{RowsLoaded, RowsJudged, Judges};
 
 use crate::faults::CheckFault;
 use problem::{Problem, Row, RowFault};

@@ -12,8 +12,8 @@ use Rattle.problem.specs.declared.faults.RowFault.{RowFault}
 use Rattle.rules.specs.declared.entries.Limits.{Limits}
 use Rattle.rules.specs.Rules.{Solution}
 use Rattle.validate.specs.Verdicts.{asked}
-use Rattle.check.specs.declared.faults.CheckFault.{CheckFault}
-use Rattle.check.specs.declared.faults.CheckFault.TheVariants as checkFault
+use Rattle.checker.specs.declared.faults.CheckFault.{CheckFault}
+use Rattle.checker.specs.declared.faults.CheckFault.TheVariants as checkFault
 
 abbrev pub widest : Limits
 widest = record { levels = 32; rows = 2000 }

@@ -3,10 +3,10 @@ use Rattle.std.proofs.lemmas.Result.{err_from_is_err_and}
 use Rattle.problem.specs.Loaded.{problem_of, Tells}
 use Rattle.problem.specs.Plans.{plan_loads}
 use Rattle.problem.specs.Reads.{plan_flaw_of}
-use Rattle.check.specs.declared.faults.CheckFault.TheVariants as checkFault
-use Rattle.check.specs.Judging.{RowsLoaded}
-use Rattle.check.proofs.Fronts.{front}
-use Rattle.check.proofs.judging.load_rows.Goals as goal
+use Rattle.checker.specs.declared.faults.CheckFault.TheVariants as checkFault
+use Rattle.checker.specs.Judging.{RowsLoaded}
+use Rattle.checker.proofs.Fronts.{front}
+use Rattle.checker.proofs.judging.load_rows.Goals as goal
 
 pub returns-in_err-count : goal.returns-in_err-count
 returns-in_err-count c =

@@ -5,10 +5,10 @@ use Rattle.problem.specs.Loaded.{problem_of}
 use Rattle.problem.specs.Plans.{plan_loads}
 use Rattle.problem.specs.declared.entries.Row.{Row}
 use Rattle.problem.specs.declared.faults.RowFault.{RowFault}
-use Rattle.check.specs.declared.faults.CheckFault.{CheckFault}
-use Rattle.check.specs.declared.faults.CheckFault.TheVariants as checkFault
-use Rattle.check.specs.Judging.{RowsJudged, Judges}
-use Rattle.check.proofs.judging.judge.Goals as goal
+use Rattle.checker.specs.declared.faults.CheckFault.{CheckFault}
+use Rattle.checker.specs.declared.faults.CheckFault.TheVariants as checkFault
+use Rattle.checker.specs.Judging.{RowsJudged, Judges}
+use Rattle.checker.proofs.judging.judge.Goals as goal
 
 judged : (shop list : List ℕ) (P : ProblemData) (rows : List Row) (r : Result (Result ℕ RowFault) CheckFault) → loads shop ≡ Ok P → plan_loads P 2000 list ≡ Ok rows → RowsJudged P rows r → Judges shop list r
 judged shop list P rows (Ok answer) a b j = (P, rows, a, b, j)

@@ -1,6 +1,6 @@
 // Why there is no verdict.
 ghost use Rattle.std.specs.Prelude.{◌≡◌};
-ghost use Rattle.check.specs.declared.faults.CheckFault.TheVariants as checkFault;
+ghost use Rattle.checker.specs.declared.faults.CheckFault.TheVariants as checkFault;
 
 use problem::{PlanFault, ProblemFault};
 use std::alloc::AllocError;
