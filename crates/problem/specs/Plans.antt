@@ -117,7 +117,7 @@ unknown_row (Some row) = Some (row_fault NumberInRange row)
 
 -- questions 21 and 4: why the rows are no plan of the problem
 abbrev pub plan_refusal : ProblemData → List Row → Option RowFault
-plan_refusal p rows = cond (nat_le (length rows) 2000) (unknown_row (unknown_in p rows)) (Some (row_fault WithinRowLimit 0))
+plan_refusal p rows = cond (nat_le (length rows) 2000) (unknown_row (unknown_at (length p.methods) (length p.operators) 1 rows)) (Some (row_fault WithinRowLimit 0))
 
 -- then question 22: the text stands at the start of the bytes, and what is beyond it is as it was; or it is longer than the bytes.
 -- A refusal alters none of them
