@@ -3,8 +3,8 @@
 
 usage: python3 tools/snake_names.py [--list]      at the top of the repository; --list prints the names and changes nothing
 
-Reads what crates/*/specs and crates/*/proofs declare, with the fields of records, the constructors of data and what stands
-in sections. Answers to goals, functions of src/, comments and strings keep their spelling. To be run once, after port.py.
+Reads what crates/*/specs and crates/*/proofs declare, with the fields of records, the constructors of data, what stands in
+sections, and the names that imports give. Answers to goals, functions of src/, comments and strings keep their spelling. To be run once, after port.py.
 """
 import glob
 import re
@@ -43,13 +43,15 @@ def collect():
     """What is renamed, and which of these names stand after a dot."""
     plain, fields = {}, {}
     for path in files():
-        if not path.endswith(".antt"):
-            continue
         with open(path, encoding="utf-8") as f:
             lines = f.read().split("\n")
         inside = False
         for line in lines:
+            for name in re.findall(r"\bas ([a-z]+[A-Z][A-Za-z]*)", line):
+                plain[name] = snake(name)
             if not line or line.lstrip().startswith("--"):
+                continue
+            if not path.endswith(".antt"):
                 continue
             m = re.match(r"(\s*)((?:abbrev|unfoldable|pub|opaque) )*(record |data )?(\S+)\s*(.*)", line)
             indent, kind, name, rest = m.group(1), (m.group(3) or "").strip(), m.group(4), m.group(5)

@@ -40,7 +40,7 @@ fn log(rt: HostRuntime) -> Result<(), Fail> {
     assert_eq!(rt; state.lost(), 0);
     assert_eq!(rt;
         state.log(),
-        &[
+        [
             Change {
                 fact: 2,
                 value: true,
@@ -50,6 +50,7 @@ fn log(rt: HostRuntime) -> Result<(), Fail> {
                 value: false,
             },
         ]
+        .as_slice()
     );
     Ok(())
 }

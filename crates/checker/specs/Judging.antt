@@ -13,7 +13,7 @@ use Rattle.rules.specs.declared.entries.Limits.{Limits}
 use Rattle.rules.specs.Rules.{Solution}
 use Rattle.validate.specs.Verdicts.{asked}
 use Rattle.checker.specs.declared.faults.CheckFault.{CheckFault}
-use Rattle.checker.specs.declared.faults.CheckFault.TheVariants as checkFault
+use Rattle.checker.specs.declared.faults.CheckFault.TheVariants as check_fault
 
 abbrev pub widest : Limits
 widest = record { levels = 32; rows = 2000 }
@@ -21,9 +21,9 @@ widest = record { levels = 32; rows = 2000 }
 -- the rows that the plan text means, or its fault
 abbrev pub RowsLoaded : ProblemData → List ℕ → Result (Vec Row Global) CheckFault → Type 0
 RowsLoaded P list (Ok v) = plan_loads P 2000 list ≡ Ok (vec_items v)
-RowsLoaded P list (Err (checkFault.Shop e)) = ⊥
-RowsLoaded P list (Err (checkFault.List e)) = Tells (plan_loads P 2000 list) (plan_flaw_of e)
-RowsLoaded P list (Err checkFault.Memory) = Unit {0}
+RowsLoaded P list (Err (check_fault.Shop e)) = ⊥
+RowsLoaded P list (Err (check_fault.List e)) = Tells (plan_loads P 2000 list) (plan_flaw_of e)
+RowsLoaded P list (Err check_fault.Memory) = Unit {0}
 
 -- the verdict on rows: they are a solution, or are refused by the first question that validation answers no
 abbrev pub VerdictIs : ProblemData → List Row → Result ℕ RowFault → Type 0
@@ -32,13 +32,13 @@ VerdictIs P rows (Err f) = first_no (asked P widest 256 rows) ≡ Err f
 
 abbrev pub RowsJudged : ProblemData → List Row → Result (Result ℕ RowFault) CheckFault → Type 0
 RowsJudged P rows (Ok answer) = VerdictIs P rows answer
-RowsJudged P rows (Err (checkFault.Shop e)) = ⊥
-RowsJudged P rows (Err (checkFault.List e)) = ⊥
-RowsJudged P rows (Err checkFault.Memory) = Unit {0}
+RowsJudged P rows (Err (check_fault.Shop e)) = ⊥
+RowsJudged P rows (Err (check_fault.List e)) = ⊥
+RowsJudged P rows (Err check_fault.Memory) = Unit {0}
 
 -- both files load and the rows are judged; or one of them does not, and its own fault tells why
 abbrev pub Judges : List ℕ → List ℕ → Result (Result ℕ RowFault) CheckFault → Type 0
 Judges shop list (Ok answer) = (P : ProblemData) × (rows : List Row) × (loads shop ≡ Ok P) × (plan_loads P 2000 list ≡ Ok rows) × VerdictIs P rows answer
-Judges shop list (Err (checkFault.Shop e)) = Tells (loads shop) (flaw_of e)
-Judges shop list (Err (checkFault.List e)) = (P : ProblemData) × (loads shop ≡ Ok P) × Tells (plan_loads P 2000 list) (plan_flaw_of e)
-Judges shop list (Err checkFault.Memory) = Unit {0}
+Judges shop list (Err (check_fault.Shop e)) = Tells (loads shop) (flaw_of e)
+Judges shop list (Err (check_fault.List e)) = (P : ProblemData) × (loads shop ≡ Ok P) × Tells (plan_loads P 2000 list) (plan_flaw_of e)
+Judges shop list (Err check_fault.Memory) = Unit {0}

@@ -1,6 +1,6 @@
 // Why there is no verdict.
 ghost use Rattle.std.specs.Prelude.{◌≡◌};
-ghost use Rattle.checker.specs.declared.faults.CheckFault.TheVariants as checkFault;
+ghost use Rattle.checker.specs.declared.faults.CheckFault.TheVariants as check_fault;
 
 use problem::{PlanFault, ProblemFault};
 use std::alloc::AllocError;
@@ -14,7 +14,7 @@ pub enum CheckFault {
 }
 
 impl From<ProblemFault> for CheckFault {
-    ghost from_gives = { λ f r. r ≡ checkFault.Shop f };
+    ghost from_gives = { λ f r. r ≡ check_fault.Shop f };
 
     fn from(f: ProblemFault) -> CheckFault {
         CheckFault::Shop(f)
@@ -22,7 +22,7 @@ impl From<ProblemFault> for CheckFault {
 }
 
 impl From<PlanFault> for CheckFault {
-    ghost from_gives = { λ f r. r ≡ checkFault.List f };
+    ghost from_gives = { λ f r. r ≡ check_fault.List f };
 
     fn from(f: PlanFault) -> CheckFault {
         CheckFault::List(f)
@@ -30,7 +30,7 @@ impl From<PlanFault> for CheckFault {
 }
 
 impl From<AllocError> for CheckFault {
-    ghost from_gives = { λ _ r. r ≡ checkFault.Memory };
+    ghost from_gives = { λ _ r. r ≡ check_fault.Memory };
 
     fn from(_e: AllocError) -> CheckFault {
         CheckFault::Memory

@@ -3,14 +3,14 @@
 #![tactic(auto)]
 
 mod output;
-mod views;
+mod shown;
 
 use anyhow::anyhow;
 use input::first_bytes;
 use output::{print, print_refusal};
 use problem::{LONGEST, Problem};
+use shown::print_plan;
 use std::env;
-use views::print_plan;
 
 fn print_summary(rt: &HostRuntime, problem: &Problem, text: &[u8]) -> anyhow::Result<()> {
     let mut back = vec![in rt.alloc(); 0u8; LONGEST]?;

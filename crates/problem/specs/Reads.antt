@@ -4,21 +4,21 @@ use Rattle.text.specs.declared.cursor.Reader.{Reader}
 use Rattle.text.specs.Lines.{Got, got, bad}
 use Rattle.text.specs.Cursors.{left}
 use Rattle.problem.specs.declared.faults.ProblemFault.{ProblemFault}
-use Rattle.problem.specs.declared.faults.ProblemFault.TheVariants as problemFault
+use Rattle.problem.specs.declared.faults.ProblemFault.TheVariants as problem_fault
 use Rattle.problem.specs.declared.faults.PlanFault.{PlanFault}
-use Rattle.problem.specs.declared.faults.PlanFault.TheVariants as planFault
+use Rattle.problem.specs.declared.faults.PlanFault.TheVariants as plan_fault
 use Rattle.problem.specs.Formats.{Flaw, of_text, of_entry}
 
 -- the flaw of the text that a fault tells of; want of memory tells of none
 abbrev pub flaw_of : ProblemFault → Option Flaw
-flaw_of (problemFault.Text f) = Some (of_text f)
-flaw_of (problemFault.Entry f) = Some (of_entry f)
-flaw_of problemFault.Memory = None
+flaw_of (problem_fault.Text f) = Some (of_text f)
+flaw_of (problem_fault.Entry f) = Some (of_entry f)
+flaw_of problem_fault.Memory = None
 
 abbrev pub plan_flaw_of : PlanFault → Option Flaw
-plan_flaw_of (planFault.Text f) = Some (of_text f)
-plan_flaw_of (planFault.Entry f) = Some (of_entry f)
-plan_flaw_of planFault.Memory = None
+plan_flaw_of (plan_fault.Text f) = Some (of_text f)
+plan_flaw_of (plan_fault.Entry f) = Some (of_entry f)
+plan_flaw_of plan_fault.Memory = None
 
 abbrev pub Fails : {Y : Type 0} → Got Flaw Y → Option Flaw → Type 0
 Fails g (Some f) = g ≡ bad f

@@ -1,7 +1,7 @@
 // A problem, which always keeps its limits.
 ghost use Rattle.std.specs.Prelude.{◌≡◌, true};
 ghost use Rattle.problem.specs.Data.{data_of};
-ghost use Rattle.problem.specs.Legal.{legal as legalData};
+ghost use Rattle.problem.specs.Legal.{legal as legal_data};
 
 use crate::entries::{Method, Operator};
 
@@ -15,5 +15,5 @@ pub struct Problem {
     pub first: Vec<u16>,
     pub operators: Vec<Operator>,
     pub methods: Vec<Method>,
-    ghost legal: { legalData (data_of number facts tasks start first operators methods) ≡ true },
+    ghost legal: { legal_data (data_of number facts tasks start first operators methods) ≡ true },
 }

@@ -1,7 +1,7 @@
 // Why a text was not loaded.
 ghost use Rattle.std.specs.Prelude.{◌≡◌};
-ghost use Rattle.problem.specs.declared.faults.ProblemFault.TheVariants as problemFault;
-ghost use Rattle.problem.specs.declared.faults.PlanFault.TheVariants as planFault;
+ghost use Rattle.problem.specs.declared.faults.ProblemFault.TheVariants as problem_fault;
+ghost use Rattle.problem.specs.declared.faults.PlanFault.TheVariants as plan_fault;
 
 use base::Question;
 use std::alloc::{AllocError, AllocFailed};
@@ -38,7 +38,7 @@ pub enum PlanFault {
 }
 
 impl From<TextFault> for ProblemFault {
-    ghost from_gives = { λ f r. r ≡ problemFault.Text f };
+    ghost from_gives = { λ f r. r ≡ problem_fault.Text f };
 
     fn from(f: TextFault) -> ProblemFault {
         ProblemFault::Text(f)
@@ -46,7 +46,7 @@ impl From<TextFault> for ProblemFault {
 }
 
 impl From<Refusal> for ProblemFault {
-    ghost from_gives = { λ f r. r ≡ problemFault.Entry f };
+    ghost from_gives = { λ f r. r ≡ problem_fault.Entry f };
 
     fn from(f: Refusal) -> ProblemFault {
         ProblemFault::Entry(f)
@@ -54,7 +54,7 @@ impl From<Refusal> for ProblemFault {
 }
 
 impl From<AllocError> for ProblemFault {
-    ghost from_gives = { λ _ r. r ≡ problemFault.Memory };
+    ghost from_gives = { λ _ r. r ≡ problem_fault.Memory };
 
     fn from(_e: AllocError) -> ProblemFault {
         ProblemFault::Memory
@@ -62,7 +62,7 @@ impl From<AllocError> for ProblemFault {
 }
 
 impl<T: Drop> From<AllocFailed<T>> for ProblemFault {
-    ghost from_gives = { λ _ r. r ≡ problemFault.Memory };
+    ghost from_gives = { λ _ r. r ≡ problem_fault.Memory };
 
     fn from(_e: AllocFailed<T>) -> ProblemFault {
         ProblemFault::Memory
@@ -70,7 +70,7 @@ impl<T: Drop> From<AllocFailed<T>> for ProblemFault {
 }
 
 impl From<TextFault> for PlanFault {
-    ghost from_gives = { λ f r. r ≡ planFault.Text f };
+    ghost from_gives = { λ f r. r ≡ plan_fault.Text f };
 
     fn from(f: TextFault) -> PlanFault {
         PlanFault::Text(f)
@@ -78,7 +78,7 @@ impl From<TextFault> for PlanFault {
 }
 
 impl From<Refusal> for PlanFault {
-    ghost from_gives = { λ f r. r ≡ planFault.Entry f };
+    ghost from_gives = { λ f r. r ≡ plan_fault.Entry f };
 
     fn from(f: Refusal) -> PlanFault {
         PlanFault::Entry(f)
@@ -86,7 +86,7 @@ impl From<Refusal> for PlanFault {
 }
 
 impl From<AllocError> for PlanFault {
-    ghost from_gives = { λ _ r. r ≡ planFault.Memory };
+    ghost from_gives = { λ _ r. r ≡ plan_fault.Memory };
 
     fn from(_e: AllocError) -> PlanFault {
         PlanFault::Memory
@@ -94,7 +94,7 @@ impl From<AllocError> for PlanFault {
 }
 
 impl<T: Drop> From<AllocFailed<T>> for PlanFault {
-    ghost from_gives = { λ _ r. r ≡ planFault.Memory };
+    ghost from_gives = { λ _ r. r ≡ plan_fault.Memory };
 
     fn from(_e: AllocFailed<T>) -> PlanFault {
         PlanFault::Memory

@@ -1,7 +1,7 @@
 // Reads a line of a problem file and asks questions 4 to 6 of its numbers.
 ghost use Rattle.std.specs.Prelude.{◌≡◌, IfOk, vec_items};
 ghost use Rattle.text.specs.Cursors.{left};
-ghost use Rattle.problem.specs.Formats.{inside as insideOf, above as above_of, a_list, a_number, ranged as rangedOf};
+ghost use Rattle.problem.specs.Formats.{inside as inside_of, above as above_of, a_list, a_number, ranged as ranged_of};
 ghost use Rattle.problem.specs.Entered.{noted as noted_of, Fresh, Enters, Judges, Ranged};
 ghost use Rattle.problem.specs.Reads.{Reads, flaw_of, same};
 
@@ -12,7 +12,7 @@ use std::alloc::{AllocError, Global};
 use text::{Numbered, Numbers, Place, Reader};
 
 fn inside(n: u16, low: usize, end: usize) -> bool
-    ensures { result ≡ insideOf low end n }
+    ensures { result ≡ inside_of low end n }
 {
     low <= n as usize && (n as usize) < end
 }
@@ -145,7 +145,7 @@ pub(crate) fn number(
     low: usize,
     end: usize,
 ) -> Result<u16, ProblemFault>
-    ensures reads { Reads flaw_of ((a_number key.now (rangedOf low end)).read reader.old.line reader.old.byte (left reader.old)) same result reader.new }
+    ensures reads { Reads flaw_of ((a_number key.now (ranged_of low end)).read reader.old.line reader.old.byte (left reader.old)) same result reader.new }
     ensures text { reader.new.text.now ≡ reader.old.text.now }
 {
     let line = reader.place().line;

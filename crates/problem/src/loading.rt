@@ -3,7 +3,7 @@ ghost use Rattle.std.specs.Prelude.{◌≡◌, ◌+◌, IfOk};
 ghost use Rattle.text.specs.Cursors.{left};
 ghost use Rattle.problem.specs.Data.{operator_of, method_of, operators_of, methods_of};
 ghost use Rattle.problem.specs.Formats.{times};
-ghost use Rattle.problem.specs.Files.{fact_rule, task_rule, head as headFormat, operator as operatorFormat, method as methodFormat};
+ghost use Rattle.problem.specs.Files.{fact_rule, task_rule, head as head_format, operator as operator_format, method as method_format};
 ghost use Rattle.problem.specs.Reads.{Reads, flaw_of};
 ghost use Rattle.problem.specs.Heads.{head_of, Finishes};
 ghost use Rattle.problem.specs.Loaded.{problem_of, new_data, ReadWhole, Filled, LoadsExactly, Back};
@@ -55,7 +55,7 @@ pub(crate) struct Head {
 }
 
 fn read_head(reader: &mut Reader<'_>, heap: Global) -> Result<Head, ProblemFault>
-    ensures reads { Reads flaw_of (headFormat.read reader.old.line reader.old.byte (left reader.old)) head_of result reader.new }
+    ensures reads { Reads flaw_of (head_format.read reader.old.line reader.old.byte (left reader.old)) head_of result reader.new }
     ensures text { reader.new.text.now ≡ reader.old.text.now }
 {
     let shop = number(reader, b"shop", 0, 65536)?;
@@ -86,7 +86,7 @@ fn read_operator(
     heap: Global,
     facts: u16,
 ) -> Result<Operator, ProblemFault>
-    ensures reads { Reads flaw_of ((operatorFormat facts).read reader.old.line reader.old.byte (left reader.old)) operator_of result reader.new }
+    ensures reads { Reads flaw_of ((operator_format facts).read reader.old.line reader.old.byte (left reader.old)) operator_of result reader.new }
     ensures text { reader.new.text.now ≡ reader.old.text.now }
 {
     let rule = fact_rule(8, facts);
@@ -110,7 +110,7 @@ fn read_operators(
     n: u16,
     facts: u16,
 ) -> Result<Vec<Operator>, ProblemFault>
-    ensures reads { Reads flaw_of ((times n (operatorFormat facts)).read reader.old.line reader.old.byte (left reader.old)) operators_of result reader.new }
+    ensures reads { Reads flaw_of ((times n (operator_format facts)).read reader.old.line reader.old.byte (left reader.old)) operators_of result reader.new }
     ensures text { reader.new.text.now ≡ reader.old.text.now }
 {
     let mut all = Vec::with_capacity(heap, n as usize)?;
@@ -128,7 +128,7 @@ fn read_method(
     ops: u16,
     tasks: u16,
 ) -> Result<Method, ProblemFault>
-    ensures reads { Reads flaw_of ((methodFormat facts ops tasks).read reader.old.line reader.old.byte (left reader.old)) method_of result reader.new }
+    ensures reads { Reads flaw_of ((method_format facts ops tasks).read reader.old.line reader.old.byte (left reader.old)) method_of result reader.new }
     ensures text { reader.new.text.now ≡ reader.old.text.now }
 {
     let rule = fact_rule(8, facts);
@@ -148,7 +148,7 @@ fn read_methods(
     ops: u16,
     tasks: u16,
 ) -> Result<Vec<Method>, ProblemFault>
-    ensures reads { Reads flaw_of ((times n (methodFormat facts ops tasks)).read reader.old.line reader.old.byte (left reader.old)) methods_of result reader.new }
+    ensures reads { Reads flaw_of ((times n (method_format facts ops tasks)).read reader.old.line reader.old.byte (left reader.old)) methods_of result reader.new }
     ensures text { reader.new.text.now ≡ reader.old.text.now }
 {
     let mut all = Vec::with_capacity(heap, n as usize)?;

@@ -1,8 +1,8 @@
 // Loads a plan text.
 ghost use Rattle.std.specs.Prelude.{◌≡◌, ◌≤◌, ◌++◌, length, drop, vec_items, codes};
 ghost use Rattle.text.specs.Cursors.{left};
-ghost use Rattle.problem.specs.Formats.{a_number, ranged as rangedOf, times};
-ghost use Rattle.problem.specs.Plans.{same_shop, fitting, row as rowFormat, RowsRead, RowsLoaded, PlanExactly};
+ghost use Rattle.problem.specs.Formats.{a_number, ranged as ranged_of, times};
+ghost use Rattle.problem.specs.Plans.{same_shop, fitting, row as row_format, RowsRead, RowsLoaded, PlanExactly};
 ghost use Rattle.problem.specs.Reads.{Reads, plan_flaw_of, same};
 ghost use Rattle.problem.specs.Stops.{Stops};
 ghost use Rattle.problem.specs.Loaded.{problem_of};
@@ -54,7 +54,7 @@ fn read_count(reader: &mut Reader<'_>, room: usize) -> Result<u16, PlanFault>
 
 // The number of a method or an operator, below `end`.
 fn read_entry(reader: &mut Reader<'_>, key: &[u8], end: usize) -> Result<u16, PlanFault>
-    ensures reads { Reads plan_flaw_of ((a_number key.now (rangedOf 0 end)).read reader.old.line reader.old.byte (left reader.old)) same result reader.new }
+    ensures reads { Reads plan_flaw_of ((a_number key.now (ranged_of 0 end)).read reader.old.line reader.old.byte (left reader.old)) same result reader.new }
     ensures text { reader.new.text.now ≡ reader.old.text.now }
 {
     let line = reader.place().line;
@@ -64,7 +64,7 @@ fn read_entry(reader: &mut Reader<'_>, key: &[u8], end: usize) -> Result<u16, Pl
 }
 
 fn read_row(reader: &mut Reader<'_>, methods: usize, ops: usize) -> Result<Row, PlanFault>
-    ensures reads { Reads plan_flaw_of ((rowFormat methods ops).read reader.old.line reader.old.byte (left reader.old)) same result reader.new }
+    ensures reads { Reads plan_flaw_of ((row_format methods ops).read reader.old.line reader.old.byte (left reader.old)) same result reader.new }
     ensures text { reader.new.text.now ≡ reader.old.text.now }
 {
     if reader.begins(b"by") {
@@ -82,7 +82,7 @@ fn read_rows(
     methods: usize,
     ops: usize,
 ) -> Result<Vec<Row>, PlanFault>
-    ensures reads { Reads plan_flaw_of ((times n (rowFormat methods ops)).read reader.old.line reader.old.byte (left reader.old)) vec_items result reader.new }
+    ensures reads { Reads plan_flaw_of ((times n (row_format methods ops)).read reader.old.line reader.old.byte (left reader.old)) vec_items result reader.new }
     ensures text { reader.new.text.now ≡ reader.old.text.now }
 {
     let mut all = Vec::with_capacity(heap, n as usize)?;

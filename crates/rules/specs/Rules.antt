@@ -1,6 +1,6 @@
 -- Which rows are a solution, in the subject's words. Assumes nothing.
 use Rattle.std.specs.Prelude.{◌≡◌, ℕ, ◌+◌, ◌<◌, ◌≤◌, Bool, true, false, ◌⊎◌, List, [], ◌∷◌, ◌++◌, length}
-use Rattle.std.specs.List.{AllByRecursion as All}
+use Rattle.std.specs.List.{AllByRecursion}
 use Rattle.problem.specs.Data.{ProblemData}
 use Rattle.problem.specs.declared.entries.Row.{Row}
 use Rattle.problem.specs.declared.entries.Row.TheVariants.{By, Do}
@@ -46,7 +46,7 @@ pub record Complete (P : ProblemData) (rs : List Row) : Type 0 where
 
 -- no task of the decomposition lies deeper than L: none that is open at any place which the rows pass
 abbrev pub NoDeeper : ProblemData → ℕ → List Row → Type 0
-NoDeeper P L rs = (xs ys : List Row) (z : Place) → xs ++ ys ≡ rs → Leads P (start_place P) xs z → All (λ (t : OpenTask). t.level ≤ L) z.todo
+NoDeeper P L rs = (xs ys : List Row) (z : Place) → xs ++ ys ≡ rs → Leads P (start_place P) xs z → AllByRecursion (λ (t : OpenTask). t.level ≤ L) z.todo
 
 -- a solution that keeps the level limit L and the row limit N
 pub record Solution (P : ProblemData) (L N : ℕ) (rs : List Row) : Type 0 where

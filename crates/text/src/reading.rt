@@ -1,6 +1,6 @@
 // Reads a text line by line.
 ghost use Rattle.std.specs.Prelude.{◌≡◌, ◌+◌, ◌<◌, ◌≤◌, true, false, length, drop, is_some, IfOk, if◌then◌else◌, Some, None};
-ghost use Rattle.text.specs.Lines.{ends as endsIn, after, numbers_in, place_of};
+ghost use Rattle.text.specs.Lines.{ends as ends_in, after, numbers_in, place_of};
 ghost use Rattle.text.specs.Cursors.{left, at_end, LoneRead, Opens, LineRead, NumberRead};
 ghost use Rattle.text.specs.Fed.{Fed};
 ghost use Rattle.text.specs.Values.{value as value_at};
@@ -14,7 +14,7 @@ use base::Question;
 
 // Whether a line ends in the text.
 fn ends(text: &[u8]) -> bool
-    ensures { result ≡ endsIn text.now }
+    ensures { result ≡ ends_in text.now }
 {
     for b in text {
         if *b == b'\n' {

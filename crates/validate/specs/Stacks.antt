@@ -9,7 +9,7 @@ use Rattle.problem.specs.declared.faults.RowFault.{RowFault}
 use Rattle.rules.specs.declared.entries.OpenTask.{OpenTask}
 use Rattle.rules.specs.Tasks.{sub_of, suits}
 use Rattle.rules.specs.Places.{Place, at_level, enabled, level_right, after}
-use Rattle.validate.specs.Verdicts.{Counts, row_asked}
+use Rattle.validate.specs.Verdicts.{counts, row_asked}
 
 -- the first `used` entries, the last of them first
 abbrev pub stacked : List OpenTask → ℕ → List OpenTask
@@ -23,7 +23,7 @@ place_of P fs entries used = record { facts = take P.facts fs; todo = stacked en
 abbrev pub task_asked : ProblemData → Bool → ℕ → ℕ → Row → List Bool → OpenTask → List (Asked RowFault)
 task_asked P conditions L k r s t =
     ask (suits P r t.task) (row_fault RowForTask k)
-    ∷ ask (Counts conditions (enabled P r s)) (row_fault ConditionsHold k)
+    ∷ ask (counts conditions (enabled P r s)) (row_fault ConditionsHold k)
     ∷ ask (level_right P L r t) (row_fault LevelRight k)
     ∷ []
 

@@ -42,16 +42,16 @@ level_first P L r [] = false
 level_first P L r (t ∷ ts) = level_right P L r t
 
 -- an answer that counts only where it is asked for
-abbrev pub Counts : Bool → Bool → Bool
-Counts true b = b
-Counts false b = true
+abbrev pub counts : Bool → Bool → Bool
+counts true b = b
+counts false b = true
 
 -- 16 to 20, of the row numbered k at a place, which `left` rows follow; 18 only where conditions count
 abbrev pub row_asked : ProblemData → Bool → ℕ → ℕ → ℕ → Row → Place → List (Asked RowFault)
 row_asked P conditions L k left r p =
     ask (is_open p.todo) (row_fault TaskOpen k)
     ∷ ask (suits_first P r p.todo) (row_fault RowForTask k)
-    ∷ ask (Counts conditions (enabled P r p.facts)) (row_fault ConditionsHold k)
+    ∷ ask (counts conditions (enabled P r p.facts)) (row_fault ConditionsHold k)
     ∷ ask (level_first P L r p.todo) (row_fault LevelRight k)
     ∷ ask (nat_le (length (after P r p).todo) left) (row_fault OpenWithinRows k)
     ∷ []

@@ -1,6 +1,6 @@
 -- The lines that are listed are those of the trees, and fill the slice. Assumes nothing.
 use Rattle.std.proofs.Common.{◌≡◌, ℕ, suc, ◌+◌, ◌≤◌, false, List, [], ◌∷◌, ◌++◌, length, take, drop, set, Ok, sym, refl, ap, ◌∙◌, subst, ap₂, append_assoc, arith, lit≤, length-append, length-set}
-use Rattle.std.specs.List.{AllByRecursion as All}
+use Rattle.std.specs.List.{AllByRecursion}
 use Rattle.std.proofs.lemmas.List.{append-nil, drop_all, take-append-drop, take_more_set, drop-set-lt}
 use Rattle.std.proofs.lemmas.Bool.{leb-true}
 use Rattle.base.specs.Asked.{first_no}
@@ -89,7 +89,7 @@ module _ (P : ProblemData) (rows : List Row) (passes : first_no (decomposition_a
       laid_is P 0 rows (nodes_at 0 1 P.first) nodes (omega arith)
       ∙ ap (λ xs. tree_lines P rows ++ xs) (drop_all (0 + length (tree_lines P rows)) nodes (omega arith)) ∙ append-nil (tree_lines P rows)
 
-  low : All (Low 32) (tree_lines P rows)
+  low : AllByRecursion (Low 32) (tree_lines P rows)
   low =
       let start : AllYes (rows_asked P false 32 1 rows (record { facts = start_facts P; todo = opens (nodes_at 0 1 P.first) })) =
       subst (λ (todo : List OpenTask). AllYes (rows_asked P false 32 1 rows (record { facts = start_facts P; todo = todo }))) (sym (opens_first 0 1 P.first)) yeses.1.1 in
@@ -102,5 +102,5 @@ module _ (P : ProblemData) (rows : List Row) (passes : first_no (decomposition_a
     decomposes = tree.1;
     rows_are = tree.2;
     text_is = ap (lines_text P.number (length rows)) listed;
-    levels = subst (All (Low 32)) listed low;
+    levels = subst (AllByRecursion (Low 32)) listed low;
   }

@@ -1,6 +1,6 @@
 -- Rows that pass have trees, of which no task lies too deep. Assumes nothing.
 use Rattle.std.proofs.Common.{◌≡◌, ℕ, ◌+◌, ◌<◌, ◌≤◌, Bool, true, false, cond, ltb, List, [], ◌∷◌, ◌++◌, map, length, sym, refl, ap, ◌∙◌, subst, append_assoc, arith}
-use Rattle.std.specs.List.{AllByRecursion as All}
+use Rattle.std.specs.List.{AllByRecursion}
 use Rattle.std.proofs.lemmas.List.{append-nil, map-append, nil_from_length}
 use Rattle.std.proofs.lemmas.Bool.{ltb-true, leb-true, eqb-true}
 use Rattle.base.proofs.Asking.{AllYes}
@@ -71,18 +71,18 @@ opens_sub k l (t ∷ ts) ns = ap (λ (xs : List OpenTask). record { task = t; le
 abbrev pub Low : ℕ → Node → Type 0
 Low L n = n.level ≤ L
 
-low_nodes : (L k l : ℕ) (ts : List ℕ) (ns : List Node) → l ≤ L → All (Low L) ns → All (Low L) (nodes_at k l ts ++ ns)
+low_nodes : (L k l : ℕ) (ts : List ℕ) (ns : List Node) → l ≤ L → AllByRecursion (Low L) ns → AllByRecursion (Low L) (nodes_at k l ts ++ ns)
 low_nodes L k l [] ns h a = a
 low_nodes L k l (t ∷ ts) ns h a = (h, low_nodes L k l ts ns h a)
 
-pub low_first : (L k l : ℕ) (ts : List ℕ) → l ≤ L → All (Low L) (nodes_at k l ts)
-low_first L k l ts h = subst (All (Low L)) (append-nil (nodes_at k l ts)) (low_nodes L k l ts [] h tt)
+pub low_first : (L k l : ℕ) (ts : List ℕ) → l ≤ L → AllByRecursion (Low L) (nodes_at k l ts)
+low_first L k l ts h = subst (AllByRecursion (Low L)) (append-nil (nodes_at k l ts)) (low_nodes L k l ts [] h tt)
 
-low_sub : (L k l : ℕ) (sub : List ℕ) (ns : List Node) → fits_level sub l L ≡ true → All (Low L) ns → All (Low L) (nodes_at k (l + 1) sub ++ ns)
+low_sub : (L k l : ℕ) (sub : List ℕ) (ns : List Node) → fits_level sub l L ≡ true → AllByRecursion (Low L) ns → AllByRecursion (Low L) (nodes_at k (l + 1) sub ++ ns)
 low_sub L k l [] ns h a = a
 low_sub L k l (t ∷ ts) ns h a = let b : l < L = ltb-true l L h in low_nodes L k (l + 1) (t ∷ ts) ns (omega arith) a
 
-pub lines_low : (P : ProblemData) (L k j : ℕ) (rows : List Row) (s : List Bool) (ns : List Node) → AllYes (rows_asked P false L k rows (record { facts = s; todo = opens ns })) → All (Low L) ns → All (Low L) (lines P j rows ns)
+pub lines_low : (P : ProblemData) (L k j : ℕ) (rows : List Row) (s : List Bool) (ns : List Node) → AllYes (rows_asked P false L k rows (record { facts = s; todo = opens ns })) → AllByRecursion (Low L) ns → AllByRecursion (Low L) (lines P j rows ns)
 lines_low P L k j [] s ns y a = tt
 lines_low P L k j (r ∷ rs) s [] y a = tt
 lines_low P L k j (r ∷ rs) s (n ∷ ns) y a =

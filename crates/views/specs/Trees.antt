@@ -1,6 +1,6 @@
 -- The tree text, and what writing it answers and leaves. Assumes nothing.
 use Rattle.std.specs.Prelude.{◌≡◌, ℕ, ◌≤◌, List, [], ◌∷◌, ◌++◌, length, drop, Ok, Err, codes, Result, nat_le}
-use Rattle.std.specs.List.{AllByRecursion as All}
+use Rattle.std.specs.List.{AllByRecursion}
 use Rattle.base.specs.Asked.{Asked, ask}
 use Rattle.base.specs.declared.question.Question.TheVariants.{TextFits}
 use Rattle.text.specs.Lists.{line_of, each}
@@ -44,4 +44,4 @@ pub record Tree (P : ProblemData) (rows : List Row) (text : List ℕ) : Type 0 w
   pub decomposes : Decomposes P forest P.first
   pub rows_are : rows_of forest ≡ rows
   pub text_is : text ≡ lines_text P.number (length rows) (lines_of 0 1 1 forest)
-  pub levels : All (λ (n : Node). n.level ≤ 32) (lines_of 0 1 1 forest)
+  pub levels : AllByRecursion (λ (n : Node). n.level ≤ 32) (lines_of 0 1 1 forest)

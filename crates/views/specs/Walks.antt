@@ -1,6 +1,6 @@
 -- Where a walk stands, what it shows and where it goes. Assumes nothing.
 use Rattle.std.specs.Prelude.{◌≡◌, ℕ, ◌+◌, ◌-◌, ◌≤◌, cond, List, [], ◌∷◌, ◌++◌, length, drop, is_some, Some, None, Ok, Err, codes, decimal, Option, Result, nat_le}
-use Rattle.std.specs.List.{AllByRecursion as All}
+use Rattle.std.specs.List.{AllByRecursion}
 use Rattle.base.specs.Asked.{Asked, ask, first_no}
 use Rattle.base.specs.declared.question.Question.TheVariants.{WalkNotOver}
 use Rattle.problem.specs.Data.{ProblemData}
@@ -77,13 +77,13 @@ pub record StandsAt (place : ℕ) (rows : List Row) (stop : Stop) : Type 0 where
   pub all : rows ≡ before ++ (Do stop.operator ∷ after)
   pub number : stop.row ≡ length before + 1
   pub reached : place ≤ stop.row
-  pub passed : All IsBy (drop (place - 1) before)
+  pub passed : AllByRecursion IsBy (drop (place - 1) before)
   pub count : length rows ≡ stop.row + length after
 
 -- or it is over: all rows at or after the place are `by` rows
 abbrev pub Stands : ℕ → List Row → Option Stop → Type 0
 Stands place rows (Some stop) = StandsAt place rows stop
-Stands place rows None = All IsBy (drop (place - 1) rows)
+Stands place rows None = AllByRecursion IsBy (drop (place - 1) rows)
 
 -- what is found of rows that pass the questions
 abbrev pub Finds : ℕ → List Row → Result (Option Stop) RowFault → Type 0

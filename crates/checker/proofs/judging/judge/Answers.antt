@@ -6,15 +6,15 @@ use Rattle.problem.specs.Plans.{plan_loads}
 use Rattle.problem.specs.declared.entries.Row.{Row}
 use Rattle.problem.specs.declared.faults.RowFault.{RowFault}
 use Rattle.checker.specs.declared.faults.CheckFault.{CheckFault}
-use Rattle.checker.specs.declared.faults.CheckFault.TheVariants as checkFault
+use Rattle.checker.specs.declared.faults.CheckFault.TheVariants as check_fault
 use Rattle.checker.specs.Judging.{RowsJudged, Judges}
 use Rattle.checker.proofs.judging.judge.Goals as goal
 
 judged : (shop list : List ℕ) (P : ProblemData) (rows : List Row) (r : Result (Result ℕ RowFault) CheckFault) → loads shop ≡ Ok P → plan_loads P 2000 list ≡ Ok rows → RowsJudged P rows r → Judges shop list r
 judged shop list P rows (Ok answer) a b j = (P, rows, a, b, j)
-judged shop list P rows (Err (checkFault.Shop e)) a b j = absurd j
-judged shop list P rows (Err (checkFault.List e)) a b j = absurd j
-judged shop list P rows (Err checkFault.Memory) a b j = tt
+judged shop list P rows (Err (check_fault.Shop e)) a b j = absurd j
+judged shop list P rows (Err (check_fault.List e)) a b j = absurd j
+judged shop list P rows (Err check_fault.Memory) a b j = tt
 
 pub returns : goal.returns
 returns c =

@@ -3,7 +3,7 @@ use Rattle.std.proofs.lemmas.Result.{err_from_is_err_and}
 use Rattle.problem.specs.Loaded.{problem_of, Tells}
 use Rattle.problem.specs.Plans.{plan_loads}
 use Rattle.problem.specs.Reads.{plan_flaw_of}
-use Rattle.checker.specs.declared.faults.CheckFault.TheVariants as checkFault
+use Rattle.checker.specs.declared.faults.CheckFault.TheVariants as check_fault
 use Rattle.checker.specs.Judging.{RowsLoaded}
 use Rattle.checker.proofs.Fronts.{front}
 use Rattle.checker.proofs.judging.load_rows.Goals as goal
@@ -14,7 +14,7 @@ returns-in_err-count c =
     let list = c.args.list.now in
     let p = err_from_is_err_and c.from_residual-in_err-count.result c.from_residual-in_err-count.ensures.1 in
     let f = c.in_err-count.field-0.0 in
-    let r : c.from_residual-in_err-count.result ≡ Err (checkFault.List f) = p.1 ∙ ap Err p.2 in
+    let r : c.from_residual-in_err-count.result ≡ Err (check_fault.List f) = p.1 ∙ ap Err p.2 in
     let long : length c.as_mut_slice.result.now ≡ 2000 = c.as_mut_slice.ensures.len ∙ c.in_ok-rows.ensures.len in
     subst (RowsLoaded P list) (sym r) (subst (λ n. Tells (plan_loads P n list) (plan_flaw_of f)) long c.in_err-count.ensures.fills.0)
 
