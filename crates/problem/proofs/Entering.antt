@@ -10,7 +10,7 @@ use Rattle.text.specs.Lines.{Got, got, bad}
 use Rattle.problem.specs.declared.rule.Entries.{Entries}
 use Rattle.problem.specs.declared.rule.Rule.{Rule}
 use Rattle.problem.specs.declared.faults.Refusal.{Refusal}
-use Rattle.problem.specs.Formats.{Flaw, of_entry, on_line, inside, above, outside, excess, descends, descent, unless, judged}
+use Rattle.problem.specs.Formats.{Flaw, of_entry, on_line, inside, above, outside, excess, descends, unless, judged}
 use Rattle.problem.specs.Entered.{noted, Enters, Fresh, verdict}
 use Rattle.problem.proofs.LineLaws.{no_more}
 

@@ -7,7 +7,7 @@ use Rattle.text.specs.declared.place.TextFault.{TextFault}
 use Rattle.text.specs.Lists.{line_of, each}
 use Rattle.text.specs.Values.{values}
 use Rattle.text.specs.Viability.{Each}
-use Rattle.text.specs.Lines.{Got, got, bad, place_of, after, a_line}
+use Rattle.text.specs.Lines.{Got, got, bad, place_of, a_line}
 use Rattle.problem.specs.declared.faults.Refusal.{Refusal}
 use Rattle.problem.specs.declared.rule.Rule.{Rule}
 

@@ -1,6 +1,5 @@
 -- The conditions of operators and methods, over the facts that a state has beyond the problem's too. Assumes nothing.
-use Rattle.std.proofs.Common.{◌≡◌, ℕ, Bool, List, take, sym, ap, ◌∙◌, ap₂}
-use Rattle.problem.specs.Data.{ProblemData}
+use Rattle.std.proofs.Common.{◌≡◌, ℕ, Bool, List, take, sym, ◌∙◌, ap₂}
 use Rattle.rules.specs.Effects.{conditions}
 use Rattle.rules.proofs.Lookup.{Below}
 use Rattle.rules.proofs.Slicing.{conditions_take}

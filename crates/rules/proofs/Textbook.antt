@@ -1,13 +1,13 @@
 -- Rows, and the definition of a solution by plans of actions. Assumes nothing.
-use Rattle.std.proofs.Common.{◌≡◌, ℕ, ◌+◌, ◌<◌, Bool, List, [], ◌∷◌, ◌++◌, length, sym, refl, ap, ◌∙◌, subst, arith}
+use Rattle.std.proofs.Common.{◌≡◌, ℕ, ◌+◌, Bool, List, [], ◌∷◌, ◌++◌, sym, refl, ap, ◌∙◌, subst, arith}
 use Rattle.problem.specs.Data.{ProblemData}
 use Rattle.problem.specs.declared.entries.Row.{Row}
 use Rattle.problem.specs.declared.entries.Row.TheVariants.{By, Do}
 use Rattle.rules.specs.declared.entries.OpenTask.{OpenTask}
-use Rattle.rules.specs.declared.kinds.TaskKind.TheVariants.{Operator, Compound}
+use Rattle.rules.specs.declared.kinds.TaskKind.TheVariants.{Compound}
 use Rattle.rules.specs.Tasks.{method_at, kind_of}
 use Rattle.rules.specs.Places.{Place, at_level, start_facts, start_place, performed}
-use Rattle.rules.specs.Rules.{Fits, Leads, Complete, Solves, empty, primitive, compound, actions}
+use Rattle.rules.specs.Rules.{Leads, Complete, Solves, empty, primitive, compound, actions}
 
 -- the tasks without their levels
 abbrev pub names : List OpenTask → List ℕ

@@ -8,7 +8,7 @@ use Rattle.rules.specs.declared.entries.OpenTask.{OpenTask}
 use Rattle.rules.specs.declared.kinds.TaskKind.TheVariants.{Operator, Compound}
 use Rattle.rules.specs.Effects.{holds}
 use Rattle.rules.specs.Tasks.{operator_at, method_at, kind_of}
-use Rattle.rules.specs.Places.{Place, at_level, start_facts, start_place, performed}
+use Rattle.rules.specs.Places.{Place, at_level, start_place, performed}
 
 abbrev pub In : {X : Type 0} → List X → X → Type 0
 In [] x = ⊥

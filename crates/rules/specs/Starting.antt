@@ -1,5 +1,5 @@
 -- What putting the start facts on a state answers, and leaves. Assumes nothing.
-use Rattle.std.specs.Prelude.{ℕ, Bool, cond, List, length, Ok, Err, Result, nat_le}
+use Rattle.std.specs.Prelude.{Bool, cond, List, length, Ok, Err, Result, nat_le}
 use Rattle.base.specs.declared.question.Question.{Question}
 use Rattle.base.specs.declared.question.Question.TheVariants.{StateLargeEnough}
 use Rattle.problem.specs.Data.{ProblemData}

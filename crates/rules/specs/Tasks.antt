@@ -1,5 +1,5 @@
 -- Operators, methods and tasks by their numbers. Assumes nothing.
-use Rattle.std.specs.Prelude.{ℕ, ◌+◌, Bool, true, false, cond, List, [], length, ◌==◌, nat_lt, slice_index_or}
+use Rattle.std.specs.Prelude.{ℕ, ◌+◌, Bool, false, cond, List, [], length, ◌==◌, nat_lt, slice_index_or}
 use Rattle.problem.specs.Data.{OperatorData, MethodData, ProblemData}
 use Rattle.problem.specs.declared.entries.Row.{Row}
 use Rattle.problem.specs.declared.entries.Row.TheVariants.{By, Do}

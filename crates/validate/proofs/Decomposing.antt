@@ -1,5 +1,5 @@
 -- What is asked of a plan's decomposition, whatever facts hold. Assumes nothing.
-use Rattle.std.proofs.Common.{◌≡◌, ℕ, ◌+◌, Bool, false, cond, leb, List, [], ◌∷◌, ◌++◌, length, Ok, Err, sym, refl, ap, ◌∙◌}
+use Rattle.std.proofs.Common.{◌≡◌, ℕ, ◌+◌, Bool, false, cond, leb, List, [], ◌∷◌, ◌++◌, length, Ok, Err, refl, ap}
 use Rattle.base.specs.Asked.{first_no}
 use Rattle.base.specs.declared.question.Question.TheVariants.{OpenWithinRows}
 use Rattle.base.proofs.Asking.{append_ok, append_no, append_same}
@@ -9,7 +9,7 @@ use Rattle.problem.specs.declared.entries.Row.{Row}
 use Rattle.problem.specs.declared.faults.RowFault.{RowFault}
 use Rattle.rules.specs.declared.entries.OpenTask.{OpenTask}
 use Rattle.rules.specs.Tasks.{sub_of}
-use Rattle.rules.specs.Places.{Place, at_level, start_facts, worked}
+use Rattle.rules.specs.Places.{at_level, start_facts, worked}
 use Rattle.validate.specs.Verdicts.{plan_asked, row_asked, rows_asked, following_from, following, decomposition_asked}
 
 any_facts : (P : ProblemData) (L k : ℕ) (rs : List Row) (s z : List Bool) (todo : List OpenTask)

@@ -1,5 +1,5 @@
 -- What validation has answered, and leaves on the state. Assumes nothing.
-use Rattle.std.proofs.Common.{◌≡◌, ℕ, ◌≤◌, Bool, true, leb, List, ◌++◌, length, take, is_ok, Ok, Err, Result, sym, ap, ◌∙◌, arith}
+use Rattle.std.proofs.Common.{◌≡◌, ◌≤◌, Bool, true, List, ◌++◌, length, take, is_ok, Ok, Err, Result, sym, ap, ◌∙◌, arith}
 use Rattle.std.proofs.lemmas.Bool.{cond-true, cond-false, leb-true, le-leb}
 use Rattle.base.specs.Asked.{first_no}
 use Rattle.base.proofs.Asking.{append_ok, append_no, yes_all}
@@ -10,7 +10,7 @@ use Rattle.rules.specs.declared.entries.Limits.{Limits}
 use Rattle.rules.specs.Places.{start_facts, started}
 use Rattle.rules.specs.Starting.{large_enough, start_leaves}
 use Rattle.rules.proofs.Starts.{started_take, started_drop, started_long}
-use Rattle.validate.specs.Verdicts.{limits_asked, numbers_asked, following_from, following, opening, asked}
+use Rattle.validate.specs.Verdicts.{limits_asked, numbers_asked, following, opening, asked}
 use Rattle.validate.specs.Judged.{left_facts}
 use Rattle.validate.specs.Stacks.{Kept}
 

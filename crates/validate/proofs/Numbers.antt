@@ -1,5 +1,5 @@
 -- Question 4 of all rows, and the first unknown row. Assumes nothing.
-use Rattle.std.proofs.Common.{◌≡◌, ℕ, ◌+◌, Bool, true, false, cond, List, [], ◌∷◌, length, Some, None, Ok, Err, Option, Result, sym, refl, ap, ◌∙◌}
+use Rattle.std.proofs.Common.{◌≡◌, ℕ, ◌+◌, Bool, true, false, cond, List, [], ◌∷◌, length, Some, None, Ok, Err, Option, Result, refl}
 use Rattle.base.specs.Asked.{first_no}
 use Rattle.base.specs.declared.question.Question.TheVariants.{NumberInRange}
 use Rattle.problem.specs.Data.{ProblemData}

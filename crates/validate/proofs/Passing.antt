@@ -1,8 +1,7 @@
 -- Which plans pass. Assumes nothing.
-use Rattle.std.proofs.Common.{◌≡◌, ℕ, suc, ◌+◌, ◌<◌, ◌≤◌, Bool, true, false, cond, not, ◌&&◌, eqb, ltb, leb, List, [], ◌∷◌, ◌++◌, length, Ok, Err, sym, refl, ap, ◌∙◌, subst, inl, inr, arith, length-append}
-use Rattle.std.proofs.lemmas.Bool.{and_parts, and_from, ltb-true, lt-ltb, leb-true, le-leb, eqb-true, eq-eqb, not-true, not_from_false, cond-true, cond-false}
+use Rattle.std.proofs.Common.{◌≡◌, ℕ, ◌+◌, ◌<◌, ◌≤◌, Bool, true, false, not, leb, List, [], ◌∷◌, ◌++◌, length, sym, refl, ap, ◌∙◌, subst, inl, inr, arith, length-append}
+use Rattle.std.proofs.lemmas.Bool.{and_parts, and_from, ltb-true, lt-ltb, leb-true, le-leb, not-true, not_from_false}
 use Rattle.std.proofs.lemmas.List.{nil_from_length}
-use Rattle.base.specs.Asked.{Asked, first_no}
 use Rattle.base.proofs.Asking.{AllYes, yes_all, all_yes, all_parts, all_join}
 use Rattle.problem.specs.Data.{ProblemData}
 use Rattle.problem.specs.Plans.{known}
@@ -14,7 +13,7 @@ use Rattle.rules.specs.declared.kinds.TaskKind.TheVariants.{Compound}
 use Rattle.rules.specs.Effects.{holds, all_hold, none_holds, conditions}
 use Rattle.rules.specs.Tasks.{method_at, kind_of, sub_of}
 use Rattle.rules.specs.Places.{Place, at_level, start_place, enabled, after, after_on}
-use Rattle.rules.specs.Rules.{In, Holds, Fits, Leads, Complete, NoDeeper, Solution, actions}
+use Rattle.rules.specs.Rules.{In, Holds, Fits, Leads, Solution}
 use Rattle.rules.proofs.Suiting.{do_kind, kind_do, by_kind, kind_by, kind_operator}
 use Rattle.rules.proofs.Levels.{at_level_long, fits_open, fits_after, LevelAt, Levels, levels_deep, deep_levels}
 use Rattle.rules.proofs.Textbook.{complete_solves, solved_complete}

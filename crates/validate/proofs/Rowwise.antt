@@ -1,6 +1,6 @@
 -- One row, and the rows in turn. Assumes nothing.
-use Rattle.std.proofs.Common.{◌≡◌, ℕ, ◌+◌, ◌-◌, ◌<◌, ◌≤◌, Bool, true, false, leb, List, [], ◌∷◌, ◌++◌, length, get_or, take, drop, Ok, Err, Result, sym, refl, ap, ◌∙◌, ap₂, arith, length-drop}
-use Rattle.std.proofs.lemmas.Bool.{cond-true, cond-false, le-leb, lt-leb, and_parts}
+use Rattle.std.proofs.Common.{◌≡◌, ℕ, ◌+◌, ◌-◌, ◌<◌, ◌≤◌, Bool, true, leb, List, [], ◌∷◌, ◌++◌, length, get_or, take, drop, Ok, Err, sym, refl, ap, ◌∙◌, ap₂, arith, length-drop}
+use Rattle.std.proofs.lemmas.Bool.{cond-true, cond-false, le-leb, lt-leb}
 use Rattle.std.proofs.lemmas.List.{at_drop_more, at_drop_all}
 use Rattle.base.specs.Asked.{Asked, ask, first_no}
 use Rattle.base.proofs.Asking.{append_ok, append_no, yes_all}
@@ -12,14 +12,13 @@ use Rattle.problem.specs.declared.entries.Row.{Row}
 use Rattle.problem.specs.declared.entries.Row.TheVariants.{By, Do}
 use Rattle.problem.specs.declared.faults.RowFault.{RowFault}
 use Rattle.rules.specs.declared.entries.OpenTask.{OpenTask}
-use Rattle.rules.specs.Effects.{changed}
 use Rattle.rules.specs.Tasks.{operator_at, sub_of}
 use Rattle.rules.specs.Places.{Place, at_level, fits_level, worked, after, after_on}
 use Rattle.rules.proofs.Lookup.{operator_below}
 use Rattle.rules.proofs.Slicing.{changed_take, changed_drop}
 use Rattle.rules.proofs.Steps.{changed_long}
 use Rattle.validate.specs.Verdicts.{row_asked, rows_asked, following_from}
-use Rattle.validate.specs.Stacks.{stacked, place_of, task_asked, Placed, Kept, Went, Checked}
+use Rattle.validate.specs.Stacks.{stacked, place_of, task_asked, Placed, Kept, Went}
 use Rattle.validate.proofs.Stacking.{level_more}
 
 -- Facts.

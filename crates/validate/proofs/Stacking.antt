@@ -1,9 +1,9 @@
 -- Open tasks on a slice. Assumes nothing.
-use Rattle.std.proofs.Common.{◌≡◌, ℕ, ◌+◌, ◌-◌, ◌<◌, ◌≤◌, min, true, ◌||◌, ltb, List, [], ◌∷◌, ◌++◌, reverse, length, get_or, take, drop, set, sym, refl, ap, ◌∙◌, arith, length-append}
+use Rattle.std.proofs.Common.{◌≡◌, ℕ, ◌+◌, ◌-◌, ◌<◌, ◌≤◌, min, true, List, [], ◌∷◌, ◌++◌, reverse, length, get_or, take, drop, set, sym, refl, ap, ◌∙◌, arith, length-append}
 use Rattle.std.proofs.lemmas.List.{take_more_set, take_more, reverse-append, drop_more, length-reverse, length-take-le}
 use Rattle.std.proofs.lemmas.Bool.{ltb-true, lt-ltb}
 use Rattle.rules.specs.declared.entries.OpenTask.{OpenTask}
-use Rattle.rules.specs.Places.{at_level, is_empty, fits_level}
+use Rattle.rules.specs.Places.{at_level, fits_level}
 use Rattle.rules.proofs.Levels.{at_level_long}
 use Rattle.validate.specs.Stacks.{stacked}
 

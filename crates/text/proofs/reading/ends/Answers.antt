@@ -1,4 +1,4 @@
-use Rattle.std.proofs.Common.{◌-◌, sym, ◌∙◌, arith}
+use Rattle.std.proofs.Common.{sym, ◌∙◌, arith}
 use Rattle.text.proofs.Opening.{ends_hit, ends_miss}
 use Rattle.std.proofs.lemmas.List.{at_drop_all}
 use Rattle.text.specs.Lines.{ends}

@@ -1,4 +1,4 @@
-use Rattle.std.proofs.Common.{◌≡◌, ◌+◌, ◌++◌, length, refl, ap, ◌∙◌, arith}
+use Rattle.std.proofs.Common.{◌+◌, ◌++◌, length, refl, ap, ◌∙◌, arith}
 use Rattle.problem.specs.Loaded.{problem_of}
 use Rattle.rules.specs.Tasks.{sub_of}
 use Rattle.rules.specs.Places.{at_level}

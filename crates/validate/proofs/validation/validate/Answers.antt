@@ -1,10 +1,9 @@
-use Rattle.std.proofs.Common.{◌≡◌, true, length, take, Ok, Err, sym, refl, ap, ◌∙◌, subst}
+use Rattle.std.proofs.Common.{◌≡◌, true, length, Err, sym, refl, ap, ◌∙◌, subst}
 use Rattle.std.proofs.lemmas.Result.{err_from_is_err_and}
 use Rattle.base.specs.Asked.{first_no}
 use Rattle.problem.specs.Loaded.{problem_of}
-use Rattle.rules.specs.Places.{start_facts}
 use Rattle.validate.specs.declared.faults.Fault.TheVariants.{Refused, Memory}
-use Rattle.validate.specs.Verdicts.{limits_asked, following_from, following, asked}
+use Rattle.validate.specs.Verdicts.{limits_asked, following_from, asked}
 use Rattle.validate.specs.Judged.{Answers, Leaves}
 use Rattle.validate.proofs.Passing.{validates}
 use Rattle.validate.proofs.Leaving.{limits_no, numbers_no, opening_no, opening_yes, rows_decide, large, left_alone, left_started, put_take, put_again}

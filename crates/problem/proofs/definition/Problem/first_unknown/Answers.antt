@@ -1,4 +1,4 @@
-use Rattle.std.proofs.Common.{ap, ◌∙◌, ap₂}
+use Rattle.std.proofs.Common.{◌∙◌, ap₂}
 use Rattle.problem.specs.Plans.{unknown_at}
 use Rattle.problem.proofs.Texts.{operators_are, methods_are}
 use Rattle.problem.proofs.definition.Problem.first_unknown.Goals as goal
