@@ -1,14 +1,14 @@
 #!/usr/bin/env bash
 # Times the loading and the writing of the longest problem file, and the validation of plans of 500,
-# 1,000 and 2,000 rows of largest problems: our target/bin/repeat, which `rt check repeat` builds,
-# against bench/plain. Usage: bench/run.sh [COUNT [RUNS]]
+# 1,000 and 2,000 rows of largest problems: our crates/repeat/out/repeat, which `rt run` leaves
+# there, against bench/plain. Usage: bench/run.sh [COUNT [RUNS]]
 set -euo pipefail
 cd "$(dirname "$0")/.."
 count=${1:-2000} runs=${2:-15} longest=crates/cases/data/longest
-ours=target/bin/repeat plain=bench/plain/target/release/plain
+ours=crates/repeat/out/repeat plain=bench/plain/target/release/plain
 
 cargo build --quiet --release --offline --manifest-path bench/plain/Cargo.toml
-[ -x "$ours" ] || { echo "run.sh: no $ours; build it by: rt check repeat" >&2; exit 1; }
+[ -x "$ours" ] || { echo "run.sh: no $ours; build it by: (cd crates/repeat && rt run -- load 1 < stdin)" >&2; exit 1; }
 largest=$(mktemp -d)
 trap 'rm -r "$largest"' EXIT
 
