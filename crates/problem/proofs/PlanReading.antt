@@ -35,15 +35,15 @@ module _ (p : ProblemData) (room : ℕ) (r : Reader) (text : List ℕ) (start : 
     pub count_fails : (o : Option Flaw) → Fails (from rows_line s) o → Tells (plan_loads p room text) o
     count_fails o e = whole_fails o (later_fails shop_line later r s shop o shops (bind_fails (from rows_line s) _ o e))
 
-    module _ (n : ℕ) (t : Reader) (counts : At rows_line s n t) (methods ops : ℕ) (m-is : methods ≡ length p.methods) (o_is : ops ≡ length p.operators) where
+    module _ (n : ℕ) (t : Reader) (counts : At rows_line s n t) (methods ops : ℕ) (m_is : methods ≡ length p.methods) (o_is : ops ≡ length p.operators) where
       pub rows_fail : (o : Option Flaw) → Fails (from (times n (row methods ops)) t) o → Tells (plan_loads p room text) o
       rows_fail o e =
-          let e' : Fails (from (row_lines n) t) o = subst (λ (m : ℕ). Fails (from (times n (row m (length p.operators))) t) o) m-is (subst (λ (k : ℕ). Fails (from (times n (row methods k)) t) o) o_is e) in
+          let e' : Fails (from (row_lines n) t) o = subst (λ (m : ℕ). Fails (from (times n (row m (length p.operators))) t) o) m_is (subst (λ (k : ℕ). Fails (from (times n (row methods k)) t) o) o_is e) in
           whole_fails o (later_fails shop_line later r s shop o shops (later_fails rows_line row_lines s t n o counts e'))
 
       pub plan_read : (rows : List Row) (u : Reader) → At (times n (row methods ops)) t rows u → plan_loads p room text ≡ ended (got rows u.line u.byte (left u))
       unfolding plan_file plan_loads
       plan_read rows u e =
-          let e' : At (row_lines n) t rows u = subst (λ (m : ℕ). At (times n (row m (length p.operators))) t rows u) m-is (subst (λ (k : ℕ). At (times n (row methods k)) t rows u) o_is e) in
+          let e' : At (row_lines n) t rows u = subst (λ (m : ℕ). At (times n (row m (length p.operators))) t rows u) m_is (subst (λ (k : ℕ). At (times n (row methods k)) t rows u) o_is e) in
           ap ended (starts (plan_file p room) r text start same ∙ ap (λ (o : Got Flaw PlanLines). bind o (λ y. got (plan_join y)))
           (both_at shop_line later r s u shop (n, rows) shops (both_at rows_line row_lines s t u n rows counts e')))

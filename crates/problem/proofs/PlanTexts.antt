@@ -28,9 +28,9 @@ none_unknown p i (r ∷ rs) e = ⊎_elim
     (cases_Bool (known p r))
 
 module _ (p : ProblemData) (rows : List Row) where
-  module _ (few : length rows ≤ 2000) (methods ops : ℕ) (m-is : methods ≡ length p.methods) (o_is : ops ≡ length p.operators) where
+  module _ (few : length rows ≤ 2000) (methods ops : ℕ) (m_is : methods ≡ length p.methods) (o_is : ops ≡ length p.operators) where
     refusal_is : plan_refusal p rows ≡ unknown_row (unknown_at methods ops 1 rows)
-    refusal_is = cond-true (leb (length rows) 2000) _ _ (le-leb _ _ few) ∙ (λ i. unknown_row (unknown_at (sym m-is i) (sym o_is i) 1 rows))
+    refusal_is = cond-true (leb (length rows) 2000) _ _ (le-leb _ _ few) ∙ (λ i. unknown_row (unknown_at (sym m_is i) (sym o_is i) 1 rows))
 
     -- a row is refused
     pub row_refused : (row : ℕ) (text bytes : List ℕ) → Some row ≡ unknown_at methods ops 1 rows → PlanWritten text (plan_refusal p rows) bytes bytes (Err (row_fault NumberInRange row))
@@ -42,7 +42,7 @@ module _ (p : ProblemData) (rows : List Row) where
       passed = refusal_is ∙ ap unknown_row (sym none)
 
       is_legal : legal_plan p rows ≡ true
-      is_legal = and_from (leb (length rows) 2000) _ (le-leb _ _ few) (none_unknown p 1 rows ((λ i. unknown_at (sym m-is i) (sym o_is i) 1 rows) ∙ sym none))
+      is_legal = and_from (leb (length rows) 2000) _ (le-leb _ _ few) (none_unknown p 1 rows ((λ i. unknown_at (sym m_is i) (sym o_is i) 1 rows) ∙ sym none))
 
       pub plan_wrote : (before after : List ℕ) (n : ℕ) → Written (plan_text p rows) before after (Ok n) → PlanWritten (plan_text p rows) (plan_refusal p rows) before after (Ok n)
       plan_wrote before after n w = subst (λ (o : Option RowFault). PlanWritten (plan_text p rows) o before after (Ok n)) (sym passed) w

@@ -1,0 +1,43 @@
+// The tree and the walk of the worked plan, as they were worked out by hand. No contract says that memory is found.
+use crate::tree::write_tree;
+use crate::walk::Walk;
+use problem::{Problem, Row};
+use std::test::Fail;
+
+const SHOP: &[u8] =
+    b"shop=7\nfacts=3\nops=3\ntasks=1\nmethods=2\nstart=\nfirst=3\nshelf=0\nyes=\nno=0\nadd=0\ndel=\nshelf=4117\nyes=0\nno=1\nadd=1\ndel=\nshelf=4118\nyes=0\nno=2\nadd=2\ndel=\nfor=3\nyes=0\nno=\nsub=1,2\nfor=3\nyes=\nno=0\nsub=0,3\n";
+
+const LIST: &[u8] = b"shop=7\nrows=5\nby=1\ndo=0\nby=0\ndo=1\ndo=2\n";
+
+const TREE: &[u8] = b"shop=7\nrows=5\nnode=0,1,3\nnode=1,2,0\nnode=1,2,3\nnode=3,3,1\nnode=3,3,2\n";
+
+#[test]
+fn tree(rt: HostRuntime) -> Result<(), Fail> {
+    let mut problem = Problem::new(rt.alloc())?;
+    problem.load(rt.alloc(), SHOP)?;
+    let mut rows = [Row::Do(0); 5];
+    assert_eq!(rt; problem.load_plan(rt.alloc(), LIST, &mut rows)?, 5);
+    let mut bytes = [0u8; 100];
+    let count = write_tree(rt.alloc(), &problem, &rows, &mut bytes)?;
+    assert!(rt; &bytes[0..count] == TREE);
+    Ok(())
+}
+
+#[test]
+fn walk(rt: HostRuntime) -> Result<(), Fail> {
+    let mut problem = Problem::new(rt.alloc())?;
+    problem.load(rt.alloc(), SHOP)?;
+    let mut rows = [Row::Do(0); 5];
+    problem.load_plan(rt.alloc(), LIST, &mut rows)?;
+    let mut walk = Walk::new();
+    for (shelf, remaining) in [(0, 3), (4117, 1), (4118, 0)] {
+        let step = walk.show(&problem, &rows)?;
+        assert_eq!(rt;
+            step.map(|s| (s.shelf, s.remaining)),
+            Some((shelf, remaining))
+        );
+        walk.done(&problem, &rows)?;
+    }
+    assert!(rt; walk.show(&problem, &rows)?.is_none());
+    Ok(())
+}
