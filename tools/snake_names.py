@@ -4,7 +4,9 @@
 usage: python3 tools/snake_names.py [--list]      at the top of the repository; --list prints the names and changes nothing
 
 Reads what crates/*/specs and crates/*/proofs declare, with the fields of records, the constructors of data, what stands in
-sections, and the names that imports give. Answers to goals, functions of src/, comments and strings keep their spelling. To be run once, after port.py.
+sections, and the names that imports give. Answers to goals, functions of src/, comments and strings keep their spelling. A
+name is taken for one thing in all crates: look for those that are two (--list marks names that fall together). To be run
+once, after port.py.
 """
 import glob
 import re

@@ -3,13 +3,13 @@
 #![tactic(auto)]
 
 mod output;
-mod shown;
+mod plan_views;
 
 use anyhow::anyhow;
 use input::first_bytes;
 use output::{print, print_refusal};
+use plan_views::print_plan;
 use problem::{LONGEST, Problem};
-use shown::print_plan;
 use std::env;
 
 fn print_summary(rt: &HostRuntime, problem: &Problem, text: &[u8]) -> anyhow::Result<()> {

@@ -54,8 +54,8 @@ pub record Solution (P : ProblemData) (L N : ℕ) (rs : List Row) : Type 0 where
   pub levels : NoDeeper P L rs
   pub count : length rs ≤ N
 
--- Plans of actions, as Ghallab, Nau and Traverso define them: `Solves P s ts acts` says that the actions, in their order,
--- are a solution of the total-order problem with the facts s and the tasks ts.
+-- Plans of actions, as the planning field defines them: `Solves P s ts acts` says that the actions, in their order, are a
+-- solution of the total-order problem with the facts s and the tasks ts.
 
 pub data Solves (P : ProblemData) : List Bool → List ℕ → List ℕ → Type 0 where
   -- no task is left: the empty plan

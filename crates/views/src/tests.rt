@@ -1,4 +1,5 @@
-// The tree and the walk of the worked plan, as they were worked out by hand. No contract says that memory is found.
+// The tree and the walk of the worked plan, which were worked out by hand. That there is an answer, and not a want of memory, no
+// contract says.
 use crate::tree::write_tree;
 use crate::walk::Walk;
 use problem::{Problem, Row};
@@ -11,12 +12,18 @@ const LIST: &[u8] = b"shop=7\nrows=5\nby=1\ndo=0\nby=0\ndo=1\ndo=2\n";
 
 const TREE: &[u8] = b"shop=7\nrows=5\nnode=0,1,3\nnode=1,2,0\nnode=1,2,3\nnode=3,3,1\nnode=3,3,2\n";
 
-#[test]
-fn tree(rt: HostRuntime) -> Result<(), Fail> {
+// The worked problem, and the rows of its plan.
+fn worked(rt: &HostRuntime) -> Result<(Problem, [Row; 5]), Fail> {
     let mut problem = Problem::new(rt.alloc())?;
     problem.load(rt.alloc(), SHOP)?;
     let mut rows = [Row::Do(0); 5];
-    assert_eq!(rt; problem.load_plan(rt.alloc(), LIST, &mut rows)?, 5);
+    problem.load_plan(rt.alloc(), LIST, &mut rows)?;
+    Ok((problem, rows))
+}
+
+#[test]
+fn tree(rt: HostRuntime) -> Result<(), Fail> {
+    let (problem, rows) = worked(&rt)?;
     let mut bytes = [0u8; 100];
     let count = write_tree(rt.alloc(), &problem, &rows, &mut bytes)?;
     assert!(rt; &bytes[0..count] == TREE);
@@ -25,10 +32,7 @@ fn tree(rt: HostRuntime) -> Result<(), Fail> {
 
 #[test]
 fn walk(rt: HostRuntime) -> Result<(), Fail> {
-    let mut problem = Problem::new(rt.alloc())?;
-    problem.load(rt.alloc(), SHOP)?;
-    let mut rows = [Row::Do(0); 5];
-    problem.load_plan(rt.alloc(), LIST, &mut rows)?;
+    let (problem, rows) = worked(&rt)?;
     let mut walk = Walk::new();
     for (shelf, remaining) in [(0, 3), (4117, 1), (4118, 0)] {
         let step = walk.show(&problem, &rows)?;
