@@ -3,6 +3,8 @@
 
 mod question;
 mod storing;
+mod turns;
 
 pub use question::Question;
 pub use storing::store;
+pub use turns::ask;

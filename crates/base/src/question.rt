@@ -3,7 +3,7 @@ ghost use Rattle.std.specs.Prelude.{◌≡◌};
 ghost use Rattle.base.specs.Questions.{number_of};
 
 // A refusal names the first question that was answered no.
-#[derive(Clone, Copy, Debug)]
+#[derive(Clone, Copy, Debug, PartialEq, Eq)]
 pub enum Question {
     // Do the bytes from here on have a line end, 0x0A?
     LineEnds = 1,
@@ -56,7 +56,7 @@ pub enum Question {
 }
 
 impl Question {
-    // The number by which a refusal is known.
+    // The number by which a refusal is known: the one written above.
     pub fn number(self) -> u8
         ensures { result ≡ number_of self }
     {

@@ -2,10 +2,10 @@
 ghost use Rattle.std.specs.Prelude.{◌≡◌, false, [], length, replicate, IfOk, slice_set};
 ghost use Rattle.state.specs.Facts.{answered};
 ghost use Rattle.buyer.specs.Logged.{logged_facts, Logged, Noted};
-ghost use Rattle.std.proofs.Common.{rules, arith};
+ghost use Rattle.std.proofs.Common.{arith};
 
 use crate::definition::{Change, LoggedState};
-use base::Question;
+use base::{Question, ask};
 use state::State;
 use std::alloc::{AllocError, Global};
 
@@ -51,8 +51,9 @@ impl LoggedState {
 impl State for LoggedState {
     ghost facts = { logged_facts };
 
-    ghost within = { first_of (Prim.search rules, Prim.grind (arith, Self.row.coded.inj)) };
+    ghost within = { λ s. omega arith };
 
+    // The cast loses nothing, by the ghost field.
     fn size(&self) -> u16 {
         self.facts.len() as u16
     }
@@ -66,9 +67,7 @@ impl State for LoggedState {
         ensures value { result ≡ answered (length (logged_facts self.old)) fact }
         ensures log { Logged (record { fact = fact; value = value }) self.old result self.new }
     {
-        if fact >= self.size() {
-            return Err(Question::FactWithinState);
-        }
+        ask(fact < self.size(), Question::FactWithinState)?;
         self.facts[fact as usize] = value;
         self.note(Change { fact, value });
         Ok(())

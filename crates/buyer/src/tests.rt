@@ -1,15 +1,8 @@
 // The states used through the same calls, the buyer's own among them.
 use crate::definition::{Change, LoggedState};
+use base::Question;
 use state::{BitState, Concatenated, Negated, SparseState, State};
 use std::test::Fail;
-
-// The number of the question by which a change is refused.
-fn refusal<S: State>(state: &mut S, fact: u16) -> Option<u8> {
-    match state.set(fact, true) {
-        Ok(()) => None,
-        Err(question) => Some(question.number()),
-    }
-}
 
 #[test]
 fn pile(rt: HostRuntime) -> Result<(), Fail> {
@@ -23,7 +16,7 @@ fn pile(rt: HostRuntime) -> Result<(), Fail> {
         (Some(true), Some(false), Some(false))
     );
     assert_eq!(rt; (pile.get(258), pile.get(259)), (Some(true), None));
-    assert_eq!(rt; refusal(&mut pile, 259), Some(24));
+    assert_eq!(rt; pile.set(259, true), Err(Question::FactWithinState));
     let Negated {
         below: Concatenated { first, second },
     } = pile;
@@ -35,7 +28,7 @@ fn pile(rt: HostRuntime) -> Result<(), Fail> {
 fn log(rt: HostRuntime) -> Result<(), Fail> {
     let mut state = LoggedState::new(rt.alloc(), 3)?;
     state.set(2, true)?;
-    assert_eq!(rt; refusal(&mut state, 3), Some(24));
+    assert_eq!(rt; state.set(3, true), Err(Question::FactWithinState));
     state.set(2, false)?;
     assert_eq!(rt; state.lost(), 0);
     assert_eq!(rt;
@@ -63,7 +56,7 @@ fn longest(rt: HostRuntime) -> Result<(), Fail> {
     assert_eq!(rt; both.size(), 65535);
     both.set(65534, true)?;
     assert_eq!(rt; (both.get(65534), both.get(65535)), (Some(true), None));
-    assert_eq!(rt; refusal(&mut both, 65535), Some(24));
+    assert_eq!(rt; both.set(65535, true), Err(Question::FactWithinState));
     Ok(())
 }
 
@@ -78,6 +71,6 @@ fn sparse(rt: HostRuntime) -> Result<(), Fail> {
         (state.get(3), state.get(7), state.get(256)),
         (Some(false), Some(true), None)
     );
-    assert_eq!(rt; refusal(&mut state, 256), Some(24));
+    assert_eq!(rt; state.set(256, true), Err(Question::FactWithinState));
     Ok(())
 }

@@ -1,12 +1,11 @@
 -- What the two files come to. Assumes nothing.
-use Rattle.std.specs.Prelude.{◌≡◌, ℕ, List, length, Ok, Err, vec_items, Result, Vec}
-use Rattle.std.specs.declared.alloc.Global.{Global}
+use Rattle.std.specs.Prelude.{◌≡◌, ℕ, List, length, Ok, Err, Result}
 use Rattle.base.specs.Asked.{first_no}
 use Rattle.problem.specs.Data.{ProblemData}
 use Rattle.problem.specs.Files.{loads}
 use Rattle.problem.specs.Loaded.{Tells}
 use Rattle.problem.specs.Plans.{plan_loads}
-use Rattle.problem.specs.Reads.{flaw_of, plan_flaw_of}
+use Rattle.problem.specs.Reads.{flaw_of}
 use Rattle.problem.specs.declared.entries.Row.{Row}
 use Rattle.problem.specs.declared.faults.RowFault.{RowFault}
 use Rattle.rules.specs.declared.entries.Limits.{Limits}
@@ -17,13 +16,6 @@ use Rattle.checker.specs.declared.faults.CheckFault.TheVariants as check_fault
 
 abbrev pub widest : Limits
 widest = record { levels = 32; rows = 2000 }
-
--- the rows that the plan text means, or its fault
-abbrev pub RowsLoaded : ProblemData → List ℕ → Result (Vec Row Global) CheckFault → Type 0
-RowsLoaded P list (Ok v) = plan_loads P 2000 list ≡ Ok (vec_items v)
-RowsLoaded P list (Err (check_fault.Shop e)) = ⊥
-RowsLoaded P list (Err (check_fault.List e)) = Tells (plan_loads P 2000 list) (plan_flaw_of e)
-RowsLoaded P list (Err check_fault.Memory) = Unit {0}
 
 -- the verdict on rows: they are a solution, or are refused by the first question that validation answers no
 abbrev pub VerdictIs : ProblemData → List Row → Result ℕ RowFault → Type 0
@@ -40,5 +32,5 @@ RowsJudged P rows (Err check_fault.Memory) = Unit {0}
 abbrev pub Judges : List ℕ → List ℕ → Result (Result ℕ RowFault) CheckFault → Type 0
 Judges shop list (Ok answer) = (P : ProblemData) × (rows : List Row) × (loads shop ≡ Ok P) × (plan_loads P 2000 list ≡ Ok rows) × VerdictIs P rows answer
 Judges shop list (Err (check_fault.Shop e)) = Tells (loads shop) (flaw_of e)
-Judges shop list (Err (check_fault.List e)) = (P : ProblemData) × (loads shop ≡ Ok P) × Tells (plan_loads P 2000 list) (plan_flaw_of e)
+Judges shop list (Err (check_fault.List e)) = (P : ProblemData) × (loads shop ≡ Ok P) × Tells (plan_loads P 2000 list) (flaw_of e)
 Judges shop list (Err check_fault.Memory) = Unit {0}

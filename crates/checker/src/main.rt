@@ -4,56 +4,41 @@
 mod faults;
 mod judging;
 
-use anyhow::anyhow;
+use anyhow::{Context, anyhow};
 use faults::CheckFault;
-use input::first_bytes;
+use input::first_bytes_of;
 use judging::judge;
 use problem::{Refusal, RowFault};
-use std::fs;
 use std::io::Write;
+use text::written;
 use validate::write_verdict;
 
-fn read(rt: &HostRuntime, path: &str) -> anyhow::Result<Vec<u8>> {
-    let mut source = fs::open(rt, path)?;
-    Ok(first_bytes(rt.alloc(), &mut source)?)
-}
-
+// `inspect` prints by the same few lines: no contract can say what is printed, and a call that programs share would need one.
 fn print(rt: &HostRuntime, line: &[u8]) -> anyhow::Result<()> {
-    let mut out = rt.stdout();
-    out.write_all(line)?;
-    Ok(())
+    Ok(rt.stdout().write_all(line)?)
 }
 
 fn print_fault(rt: &HostRuntime, subject: &[u8], refusal: Option<Refusal>) -> anyhow::Result<()> {
-    let Some(refusal) = refusal else {
-        return Err(anyhow!("out of memory"));
-    };
+    let refusal = refusal.context("out of memory")?;
     let mut line = [0u8; 80];
-    match refusal.write_line(subject, &mut line) {
-        Ok(n) => print(rt, &line[0..n]),
-        Err(_) => Err(anyhow!("the line is too long")),
-    }
+    let line = written(refusal.write_line(subject, &mut line), &line);
+    print(rt, line.context("the line is too long")?)
 }
 
 fn print_verdict(rt: &HostRuntime, answer: Result<usize, RowFault>) -> anyhow::Result<()> {
     let mut line = [0u8; 80];
-    match write_verdict(answer, &mut line) {
-        Ok(n) => print(rt, &line[0..n]),
-        Err(_) => Err(anyhow!("the line is too long")),
-    }
+    let line = written(write_verdict(answer, &mut line), &line);
+    print(rt, line.context("the line is too long")?)
 }
 
-fn run(rt: &HostRuntime) -> anyhow::Result<()> {
-    let shop = read(rt, "shop.txt")?;
-    let list = read(rt, "list.txt")?;
-    match judge(rt.alloc(), shop.as_slice(), list.as_slice()) {
+fn main(rt: HostRuntime) -> anyhow::Result<()> {
+    let rt = &rt;
+    let shop = first_bytes_of(rt, "shop.txt")?;
+    let list = first_bytes_of(rt, "list.txt")?;
+    match judge(rt.alloc(), &shop, &list) {
         Ok(answer) => print_verdict(rt, answer),
         Err(CheckFault::Shop(fault)) => print_fault(rt, b"shop", fault.refusal()),
         Err(CheckFault::List(fault)) => print_fault(rt, b"list", fault.refusal()),
         Err(CheckFault::Memory) => Err(anyhow!("out of memory")),
     }
-}
-
-fn main(rt: HostRuntime) -> anyhow::Result<()> {
-    run(&rt)
 }

@@ -5,26 +5,24 @@
 mod output;
 mod plan_views;
 
-use anyhow::anyhow;
+use anyhow::Context;
 use input::first_bytes;
 use output::{print, print_refusal};
 use plan_views::print_plan;
 use problem::{LONGEST, Problem};
 use std::env;
+use text::written;
 
 fn print_summary(rt: &HostRuntime, problem: &Problem, text: &[u8]) -> anyhow::Result<()> {
     let mut back = vec![in rt.alloc(); 0u8; LONGEST]?;
-    let Ok(n) = problem.write(&mut back) else {
-        return Err(anyhow!("the text is too long"));
-    };
+    let back = written(problem.write(&mut back), &back).context("the text is too long")?;
     let mut lines = [0u8; 240];
-    match problem.write_summary(text, &back[0..n], &mut lines) {
-        Ok(n) => print(rt, &lines[0..n]),
-        Err(_) => Err(anyhow!("the lines are too long")),
-    }
+    let lines = written(problem.write_summary(text, back, &mut lines), &lines);
+    print(rt, lines.context("the lines are too long")?)
 }
 
-fn run(rt: &HostRuntime) -> anyhow::Result<()> {
+fn main(rt: HostRuntime) -> anyhow::Result<()> {
+    let rt = &rt;
     let text = first_bytes(rt.alloc(), &mut rt.stdin())?;
     let mut problem = Problem::new(rt.alloc())?;
     if let Err(fault) = problem.load(rt.alloc(), text.as_slice()) {
@@ -33,12 +31,8 @@ fn run(rt: &HostRuntime) -> anyhow::Result<()> {
     print_summary(rt, &problem, text.as_slice())?;
     let mut words = env::args(rt)?;
     let _program = words.next();
-    match words.next() {
-        Some(path) => print_plan(rt, &problem, path.as_str()),
-        None => Ok(()),
+    if let Some(path) = words.next() {
+        print_plan(rt, &problem, path.as_str())?;
     }
-}
-
-fn main(rt: HostRuntime) -> anyhow::Result<()> {
-    run(&rt)
+    Ok(())
 }

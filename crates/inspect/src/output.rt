@@ -1,12 +1,12 @@
-// What is printed, byte by byte as the library made it.
-use anyhow::anyhow;
+// What is printed, byte by byte as the library made it. `checker` has the same few lines: no contract can say what is printed,
+// and a call that programs share would need one.
+use anyhow::Context;
 use problem::Refusal;
 use std::io::Write;
+use text::written;
 
 pub fn print(rt: &HostRuntime, line: &[u8]) -> anyhow::Result<()> {
-    let mut out = rt.stdout();
-    out.write_all(line)?;
-    Ok(())
+    Ok(rt.stdout().write_all(line)?)
 }
 
 // Want of memory has no refusal.
@@ -15,12 +15,8 @@ pub fn print_refusal(
     subject: &[u8],
     refusal: Option<Refusal>,
 ) -> anyhow::Result<()> {
-    let Some(refusal) = refusal else {
-        return Err(anyhow!("out of memory"));
-    };
+    let refusal = refusal.context("out of memory")?;
     let mut line = [0u8; 80];
-    match refusal.write_line(subject, &mut line) {
-        Ok(n) => print(rt, &line[0..n]),
-        Err(_) => Err(anyhow!("the line is too long")),
-    }
+    let line = written(refusal.write_line(subject, &mut line), &line);
+    print(rt, line.context("the line is too long")?)
 }

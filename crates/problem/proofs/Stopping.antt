@@ -1,6 +1,7 @@
 -- A text that is refused under question 3 goes wrong where the fault says. Assumes nothing.
-use Rattle.std.proofs.Common.{◌≡◌, ℕ, zero, suc, Bool, true, false, List, [], ◌∷◌, length, is_some, Some, None, Err, codes, Option, refl, subst, inl, inr, arith}
+use Rattle.std.proofs.Common.{◌≡◌, ℕ, zero, suc, Bool, true, false, List, [], ◌∷◌, length, is_some, Some, None, Ok, Err, codes, Option, Result, Vec, refl, subst, inl, inr, arith}
 use Rattle.std.proofs.lemmas.Bool.{cond_both}
+use Rattle.std.specs.declared.alloc.Global.{Global}
 use Rattle.base.specs.declared.question.Question.{Question}
 use Rattle.base.specs.declared.question.Question.TheVariants.{FileEnds}
 use Rattle.text.specs.declared.place.Numbered.{Numbered}
@@ -8,13 +9,16 @@ use Rattle.text.specs.declared.place.TextFault.{TextFault}
 use Rattle.text.specs.Lines.{Got, got, bad, ends, after, a_line}
 use Rattle.text.specs.Viability.{FirstFault}
 use Rattle.text.proofs.Advancing.{From, Advanced, line_on}
+use Rattle.problem.specs.declared.entries.Row.{Row}
+use Rattle.problem.specs.declared.faults.LoadFault.{LoadFault}
 use Rattle.problem.specs.declared.rule.Rule.{Rule}
 use Rattle.problem.specs.Data.{ProblemData}
 use Rattle.problem.specs.Formats.{Flaw, entry_flaw, bind, on_line, outside, excess, descent, unless, Format, a_list, refused, single, a_number, ranged, via, both, read_all, times, ended, whole}
 use Rattle.problem.specs.Files.{head_split, head_join, head_lines, head, operator_split, operator_join, operator_lines, operator, method_split, method_join, method_lines, method, file_split, file_join, blocks, file_parts, problem_file, loads}
-use Rattle.problem.specs.Plans.{by_line, do_line, row, plan_lines, plan_split, plan_join, plan_file, plan_loads}
+use Rattle.problem.specs.Plans.{by_line, do_line, row, plan_lines, plan_split, plan_join, plan_file, plan_loads, RowsRead}
 use Rattle.problem.specs.Loaded.{Tells}
-use Rattle.problem.specs.Stops.{Begins, many_of, Stopped}
+use Rattle.problem.specs.Reads.{flaw_of}
+use Rattle.problem.specs.Stops.{Begins, many_of, Stopped, Stops}
 
 -- a line of the text begins at p, and these are the bytes from there on
 abbrev LineFrom : List ℕ → ℕ → List ℕ → Type 0
@@ -148,3 +152,8 @@ plan_stops p room = whole_stops (plan_file p room) (via_stops (plan_split p) pla
     (both_stops _ _ (number_stops (codes "shop") _ (refl, refl)) (λ _.
     both_stops _ _ (number_stops (codes "rows") _ (refl, refl)) (λ n.
     times_stops (row (length p.methods) (length p.operators)) (row_stops (length p.methods) (length p.operators)) n))))
+
+-- the same of what loading answers
+pub rows_stop : (p : ProblemData) (room : ℕ) (text : List ℕ) (r : Result (Vec Row Global) (LoadFault Row)) → RowsRead p room text r → Stops text r
+rows_stop p room text (Ok v) e = tt
+rows_stop p room text (Err f) e = plan_stops p room text (flaw_of f) e

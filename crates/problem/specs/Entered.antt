@@ -1,6 +1,7 @@
 -- What is kept of a line's numbers while they are handed on. Assumes nothing.
 use Rattle.std.specs.Prelude.{◌≡◌, ℕ, Bool, true, false, cond, List, [], ◌∷◌, ◌++◌, length, Some, None, Ok, Err, vec_items, Option, Result, Vec, nat_lt}
 use Rattle.std.specs.declared.alloc.Global.{Global}
+use Rattle.base.specs.declared.question.Question.{Question}
 use Rattle.base.specs.declared.question.Question.TheVariants.{NumberInRange, ListWithinLength, ListAscends}
 use Rattle.text.specs.declared.place.Numbered.{Numbered}
 use Rattle.text.specs.Lines.{Got, bad, place_of}
@@ -45,7 +46,7 @@ abbrev pub Judges : Entries → ℕ → Result (Vec ℕ Global) Refusal → Type
 Judges s l (Ok v) = (v ≡ s.numbers) × (s.excess ≡ None) × ((g : Got Flaw (List ℕ)) → verdict s l g ≡ g)
 Judges s l (Err f) = (g : Got Flaw (List ℕ)) → verdict s l g ≡ bad (of_entry f)
 
--- a number is in its range, or is refused where it stands
-abbrev pub Ranged : Numbered → ℕ → ℕ → ℕ → Result ℕ Refusal → Type 0
-Ranged x l low end (Ok n) = (n ≡ x.value) × (inside low end x.value ≡ true)
-Ranged x l low end (Err f) = (inside low end x.value ≡ false) × (f ≡ record { question = NumberInRange; place = place_of l x.byte })
+-- nothing was noted, or the line is refused at the byte that was
+abbrev pub Refuses : Question → ℕ → Option ℕ → Result (Unit {0}) Refusal → Type 0
+Refuses q l noted (Ok u) = noted ≡ None
+Refuses q l noted (Err f) = (byte : ℕ) × (noted ≡ Some byte) × (f ≡ record { question = q; place = place_of l byte })

@@ -1,3 +1,4 @@
+pub mod Faults
 pub mod Formats
 pub mod Entered
 pub mod Reads
@@ -9,5 +10,5 @@ pub mod Heads
 pub mod Loaded
 pub mod Plans
 pub mod Texts
-pub mod PlanBytes
+pub mod Listings
 pub mod Reports

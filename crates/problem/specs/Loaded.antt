@@ -2,7 +2,7 @@
 use Rattle.std.specs.Prelude.{◌≡◌, ℕ, true, List, [], ◌∷◌, take, Some, None, Ok, Err, Option, Result}
 use Rattle.base.specs.declared.question.Question.{Question}
 use Rattle.problem.specs.declared.definition.Problem.{Problem}
-use Rattle.problem.specs.declared.faults.ProblemFault.{ProblemFault}
+use Rattle.problem.specs.declared.faults.LoadFault.{LoadFault}
 use Rattle.problem.specs.Data.{ProblemData, data_of}
 use Rattle.problem.specs.Formats.{Flaw}
 use Rattle.problem.specs.Files.{text_of, loads}
@@ -31,12 +31,12 @@ Tells r None = Unit {0}
 Tells r (Some f) = r ≡ Err f
 
 -- a problem was made of the text, or was not
-abbrev pub ReadWhole : List ℕ → Result Problem ProblemFault → Type 0
+abbrev pub ReadWhole : List ℕ → Result Problem (LoadFault Problem) → Type 0
 ReadWhole text (Ok p) = loads text ≡ Ok (problem_of p)
 ReadWhole text (Err e) = Tells (loads text) (flaw_of e)
 
 -- loading fills the problem whole, with what the text means, or tells the text's first flaw and leaves the problem as it was
-abbrev pub Filled : List ℕ → Problem → Result (Unit {0}) ProblemFault → Problem → Type 0
+abbrev pub Filled : List ℕ → Problem → Result (Unit {0}) (LoadFault Problem) → Problem → Type 0
 Filled text before (Ok u) after = loads text ≡ Ok (problem_of after)
 Filled text before (Err e) after = Tells (loads text) (flaw_of e) × (after ≡ before)
 
@@ -45,7 +45,7 @@ abbrev pub LoadsExactly : List ℕ → Type 0
 LoadsExactly text = (p : ProblemData) → (loads text ≡ Ok p → (legal p ≡ true) × (text_of p ≡ text)) × (legal p ≡ true → text_of p ≡ text → loads text ≡ Ok p)
 
 -- the problem that was loaded is written back byte for byte
-abbrev pub Back : List ℕ → Result (Unit {0}) ProblemFault → Problem → Type 0
+abbrev pub Back : List ℕ → Result (Unit {0}) (LoadFault Problem) → Problem → Type 0
 Back text (Ok u) after = text_of (problem_of after) ≡ text
 Back text (Err e) after = Unit {0}
 

@@ -7,13 +7,14 @@ use Rattle.text.specs.Lines.{got, after}
 use Rattle.text.specs.Lists.{line_of, each}
 use Rattle.problem.specs.declared.entries.Row.{Row}
 use Rattle.problem.specs.declared.entries.Row.TheVariants.{By, Do}
-use Rattle.problem.specs.declared.faults.PlanFault.{PlanFault}
+use Rattle.problem.specs.declared.faults.LoadFault.{LoadFault}
 use Rattle.problem.specs.declared.faults.RowFault.{RowFault}
 use Rattle.problem.specs.Data.{ProblemData}
+pub use Rattle.problem.specs.Faults.{row_fault}
 use Rattle.problem.specs.Formats.{Flaw, bind, inside, Format, a_number, ranged, via, both, times, whole}
 use Rattle.problem.specs.Legal.{every}
 use Rattle.problem.specs.Loaded.{Tells}
-use Rattle.problem.specs.Reads.{plan_flaw_of}
+use Rattle.problem.specs.Reads.{flaw_of}
 
 -- question 8 after the questions of the first line: the number of the loaded problem
 abbrev pub same_shop : ℕ → ℕ → Option Question
@@ -84,15 +85,15 @@ abbrev pub legal_plan : ProblemData → List Row → Bool
 legal_plan p rows = nat_le (length rows) 2000 && every (known p) rows
 
 -- the rows were made of the text, or were not
-abbrev pub RowsRead : ProblemData → ℕ → List ℕ → Result (Vec Row Global) PlanFault → Type 0
+abbrev pub RowsRead : ProblemData → ℕ → List ℕ → Result (Vec Row Global) (LoadFault Row) → Type 0
 RowsRead p room text (Ok v) = plan_loads p room text ≡ Ok (vec_items v)
-RowsRead p room text (Err e) = Tells (plan_loads p room text) (plan_flaw_of e)
+RowsRead p room text (Err e) = Tells (plan_loads p room text) (flaw_of e)
 
 -- loading puts the rows that the text means at the start of the slice, answers how many they are and leaves the entries beyond;
 -- or it tells the text's first flaw and leaves the slice as it was
-abbrev pub RowsLoaded : ProblemData → List ℕ → List Row → Result ℕ PlanFault → List Row → Type 0
+abbrev pub RowsLoaded : ProblemData → List ℕ → List Row → Result ℕ (LoadFault Row) → List Row → Type 0
 RowsLoaded p text before (Ok n) after = (rows : List Row) × (plan_loads p (length before) text ≡ Ok rows) × (n ≡ length rows) × (n ≤ length before) × (after ≡ rows ++ drop n before)
-RowsLoaded p text before (Err e) after = Tells (plan_loads p (length before) text) (plan_flaw_of e) × (after ≡ before)
+RowsLoaded p text before (Err e) after = Tells (plan_loads p (length before) text) (flaw_of e) × (after ≡ before)
 
 -- a text loads exactly when it is the text of a plan of this problem, with its number, for which the slice has room, and then as that one
 abbrev pub PlanExactly : ProblemData → ℕ → List ℕ → Type 0
@@ -107,9 +108,6 @@ unknown_at methods ops i (r ∷ rs) = cond (known_among methods ops r) (unknown_
 
 abbrev pub unknown_in : ProblemData → List Row → Option ℕ
 unknown_in p rows = unknown_at (length p.methods) (length p.operators) 1 rows
-
-abbrev pub row_fault : Question → ℕ → RowFault
-row_fault q row = record { question = q; row = row }
 
 abbrev pub unknown_row : Option ℕ → Option RowFault
 unknown_row None = None

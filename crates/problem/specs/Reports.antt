@@ -3,25 +3,18 @@ use Rattle.std.specs.Prelude.{ℕ, Bool, cond, List, [], ◌∷◌, ◌++◌, le
 use Rattle.std.specs.Str.{bytes_eq}
 use Rattle.base.specs.Questions.{number_of}
 use Rattle.text.specs.Lists.{line_of}
-use Rattle.problem.specs.declared.faults.PlanFault.{PlanFault}
-use Rattle.problem.specs.declared.faults.PlanFault.TheVariants as plan_fault
-use Rattle.problem.specs.declared.faults.ProblemFault.{ProblemFault}
-use Rattle.problem.specs.declared.faults.ProblemFault.TheVariants as problem_fault
+use Rattle.problem.specs.declared.faults.LoadFault.{LoadFault}
+use Rattle.problem.specs.declared.faults.LoadFault.TheVariants.{Text, Entry, Memory}
 use Rattle.problem.specs.declared.faults.Refusal.{Refusal}
 use Rattle.problem.specs.declared.reports.FaultLine.{FaultLine}
 use Rattle.problem.specs.declared.reports.Summary.{Summary}
 use Rattle.problem.specs.Data.{ProblemData}
 
 -- the question and the place, whoever asked; want of memory has none
-abbrev pub refusal_of : ProblemFault → Option Refusal
-refusal_of (problem_fault.Text f) = Some (record { question = f.question; place = f.place })
-refusal_of (problem_fault.Entry f) = Some f
-refusal_of problem_fault.Memory = None
-
-abbrev pub plan_refusal_of : PlanFault → Option Refusal
-plan_refusal_of (plan_fault.Text f) = Some (record { question = f.question; place = f.place })
-plan_refusal_of (plan_fault.Entry f) = Some f
-plan_refusal_of plan_fault.Memory = None
+abbrev pub refusal_of : {W : Type 0} → LoadFault W → Option Refusal
+refusal_of (Text f) = Some (record { question = f.question; place = f.place })
+refusal_of (Entry f) = Some f
+refusal_of (Memory p) = None
 
 -- `fault=`, the subject, and the refusal's number, line and byte, with commas between them
 abbrev pub fault_line : List ℕ → Refusal → List ℕ

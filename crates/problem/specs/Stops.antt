@@ -3,7 +3,9 @@ use Rattle.std.specs.Prelude.{◌≡◌, ℕ, Bool, true, false, cond, ◌||◌,
 use Rattle.std.specs.Str.{bytes_eq}
 use Rattle.base.specs.declared.question.Question.TheVariants.{ValueFormed}
 use Rattle.text.specs.Viability.{FirstFault}
+use Rattle.problem.specs.declared.faults.LoadFault.{LoadFault}
 use Rattle.problem.specs.Formats.{Flaw, of_text, of_entry}
+use Rattle.problem.specs.Reads.{flaw_of}
 
 -- a line begins after these bytes: they are none, or end with a line end
 abbrev pub Begins : List ℕ → Type 0
@@ -42,6 +44,6 @@ Stopped text None = Unit {0}
 Stopped text (Some (of_text f)) = f.question ≡ ValueFormed → StopsIn text f.place.byte
 Stopped text (Some (of_entry f)) = Unit {0}
 
-abbrev pub Stops : {X E : Type 0} → (E → Option Flaw) → List ℕ → Result X E → Type 0
-Stops of text (Ok x) = Unit {0}
-Stops of text (Err e) = Stopped text (of e)
+abbrev pub Stops : {X W : Type 0} → List ℕ → Result X (LoadFault W) → Type 0
+Stops text (Ok x) = Unit {0}
+Stops text (Err e) = Stopped text (flaw_of e)

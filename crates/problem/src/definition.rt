@@ -5,7 +5,8 @@ ghost use Rattle.problem.specs.Legal.{legal as legal_data};
 
 use crate::entries::{Method, Operator};
 
-// The operators are the tasks from 0 on, and `tasks` compound ones follow.
+// The operators are the tasks from 0 on, and `tasks` compound ones follow. No model: contracts and code above read the parts
+// by name, and `problem_of` is what they mean together.
 #[derive(Drop)]
 pub struct Problem {
     pub number: u16,

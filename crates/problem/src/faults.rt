@@ -1,10 +1,14 @@
 // Why a text was not loaded.
 ghost use Rattle.std.specs.Prelude.{◌≡◌};
-ghost use Rattle.problem.specs.declared.faults.ProblemFault.TheVariants as problem_fault;
-ghost use Rattle.problem.specs.declared.faults.PlanFault.TheVariants as plan_fault;
+ghost use Rattle.problem.specs.Faults.{row_fault};
+ghost use Rattle.problem.specs.Reports.{refusal_of};
+ghost use Rattle.problem.specs.declared.faults.LoadFault.TheVariants as load_fault;
 
+use crate::definition::Problem;
+use crate::entries::Row;
 use base::Question;
 use std::alloc::{AllocError, AllocFailed};
+use std::marker::PhantomData;
 use text::{Place, TextFault};
 
 // The question that was answered no, and the place of what it was asked of.
@@ -14,89 +18,81 @@ pub struct Refusal {
     pub place: Place,
 }
 
-// The question that was answered no, and the row of what it was asked of: rows count from 1, and 0 stands for none.
+// The question that was answered no, and the row of what it was asked of: rows count from 1, and 0 stands for none, as it
+// is printed.
 #[derive(Clone, Copy, Debug)]
 pub struct RowFault {
     pub question: Question,
     pub row: usize,
 }
 
-// A problem file was not loaded: its text is at fault, an entry of it is, or memory is wanting.
-#[derive(Clone, Copy, Debug)]
-pub enum ProblemFault {
+// A question that is asked of all rows together has row 0.
+impl From<Question> for RowFault {
+    ghost from_gives = { λ q f. f ≡ row_fault q 0 };
+
+    fn from(question: Question) -> RowFault {
+        RowFault { question, row: 0 }
+    }
+}
+
+// Why a text was not loaded as a `W`: the text is at fault, an entry of it is, or memory is wanting. `W` has to stand
+// somewhere in it.
+#[derive_where(Clone, Copy, Debug)]
+pub enum LoadFault<W> {
     Text(TextFault),
     Entry(Refusal),
-    Memory,
+    Memory(PhantomData<W>),
 }
 
-// A plan text was not loaded, for a reason of the same kinds.
-#[derive(Clone, Copy, Debug)]
-pub enum PlanFault {
-    Text(TextFault),
-    Entry(Refusal),
-    Memory,
-}
+// A problem file and a plan text have faults of two types, so that a program can tell by `From` which of them is at fault.
+pub type ProblemFault = LoadFault<Problem>;
 
-impl From<TextFault> for ProblemFault {
-    ghost from_gives = { λ f r. r ≡ problem_fault.Text f };
+pub type PlanFault = LoadFault<Row>;
 
-    fn from(f: TextFault) -> ProblemFault {
-        ProblemFault::Text(f)
+impl<W> From<TextFault> for LoadFault<W> {
+    ghost from_gives = { λ f r. r ≡ load_fault.Text f };
+
+    fn from(f: TextFault) -> LoadFault<W> {
+        LoadFault::Text(f)
     }
 }
 
-impl From<Refusal> for ProblemFault {
-    ghost from_gives = { λ f r. r ≡ problem_fault.Entry f };
+impl<W> From<Refusal> for LoadFault<W> {
+    ghost from_gives = { λ f r. r ≡ load_fault.Entry f };
 
-    fn from(f: Refusal) -> ProblemFault {
-        ProblemFault::Entry(f)
+    fn from(f: Refusal) -> LoadFault<W> {
+        LoadFault::Entry(f)
     }
 }
 
-impl From<AllocError> for ProblemFault {
-    ghost from_gives = { λ _ r. r ≡ problem_fault.Memory };
+impl<W> From<AllocError> for LoadFault<W> {
+    ghost from_gives = { λ _ r. r ≡ load_fault.Memory (record {}) };
 
-    fn from(_e: AllocError) -> ProblemFault {
-        ProblemFault::Memory
+    fn from(_e: AllocError) -> LoadFault<W> {
+        LoadFault::Memory(PhantomData)
     }
 }
 
-impl<T: Drop> From<AllocFailed<T>> for ProblemFault {
-    ghost from_gives = { λ _ r. r ≡ problem_fault.Memory };
+impl<W, T: Drop> From<AllocFailed<T>> for LoadFault<W> {
+    ghost from_gives = { λ _ r. r ≡ load_fault.Memory (record {}) };
 
-    fn from(_e: AllocFailed<T>) -> ProblemFault {
-        ProblemFault::Memory
+    fn from(_e: AllocFailed<T>) -> LoadFault<W> {
+        LoadFault::Memory(PhantomData)
     }
 }
 
-impl From<TextFault> for PlanFault {
-    ghost from_gives = { λ f r. r ≡ plan_fault.Text f };
-
-    fn from(f: TextFault) -> PlanFault {
-        PlanFault::Text(f)
-    }
-}
-
-impl From<Refusal> for PlanFault {
-    ghost from_gives = { λ f r. r ≡ plan_fault.Entry f };
-
-    fn from(f: Refusal) -> PlanFault {
-        PlanFault::Entry(f)
-    }
-}
-
-impl From<AllocError> for PlanFault {
-    ghost from_gives = { λ _ r. r ≡ plan_fault.Memory };
-
-    fn from(_e: AllocError) -> PlanFault {
-        PlanFault::Memory
-    }
-}
-
-impl<T: Drop> From<AllocFailed<T>> for PlanFault {
-    ghost from_gives = { λ _ r. r ≡ plan_fault.Memory };
-
-    fn from(_e: AllocFailed<T>) -> PlanFault {
-        PlanFault::Memory
+impl<W> LoadFault<W> {
+    // The question and the place, whoever asked; want of memory has none.
+    pub fn refusal(self) -> Option<Refusal>
+        ensures { result ≡ refusal_of self }
+    {
+        match self {
+            LoadFault::Text(f) => Some(Refusal {
+                question: f.question,
+                place: f.place,
+            }),
+            LoadFault::Entry(f) => Some(f),
+            LoadFault::Memory(_) => None,
+        }
     }
 }

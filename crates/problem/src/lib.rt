@@ -5,6 +5,8 @@ mod definition;
 mod entries;
 mod faults;
 mod lines;
+mod listing;
+mod loader;
 mod loading;
 mod plan_writing;
 mod plans;
@@ -14,5 +16,6 @@ mod writing;
 
 pub use definition::Problem;
 pub use entries::{Method, Operator, Row};
-pub use faults::{PlanFault, ProblemFault, Refusal, RowFault};
+pub use faults::{LoadFault, PlanFault, ProblemFault, Refusal, RowFault};
+pub use listing::Listing;
 pub use writing::LONGEST;

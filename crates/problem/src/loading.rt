@@ -1,30 +1,27 @@
 // Loads a problem file.
-ghost use Rattle.std.specs.Prelude.{◌≡◌, ◌+◌, IfOk};
-ghost use Rattle.text.specs.Cursors.{left};
+ghost use Rattle.std.specs.Prelude.{◌≡◌, IfOk};
 ghost use Rattle.problem.specs.Data.{operator_of, method_of, operators_of, methods_of};
 ghost use Rattle.problem.specs.Formats.{times};
 ghost use Rattle.problem.specs.Files.{fact_rule, task_rule, head as head_format, operator as operator_format, method as method_format};
-ghost use Rattle.problem.specs.Reads.{Reads, flaw_of};
-ghost use Rattle.problem.specs.Heads.{head_of, Finishes};
+ghost use Rattle.problem.specs.Reads.{from, Reads};
+ghost use Rattle.problem.specs.Heads.{head_of};
 ghost use Rattle.problem.specs.Loaded.{problem_of, new_data, ReadWhole, Filled, LoadsExactly, Back};
 ghost use Rattle.problem.specs.Stops.{Stops};
 
 use crate::definition::Problem;
 use crate::entries::{Method, Operator};
-use crate::faults::{ProblemFault, Refusal};
-use crate::lines::{list, number};
+use crate::faults::ProblemFault;
+use crate::loader::Loader;
 use crate::rule::Rule;
-use base::Question;
 use std::alloc::{AllocError, Global};
-use text::Reader;
 
-// At most `most` facts below `facts`, ascending.
+// At most `most` facts below `facts`, ascending. One function for both lists would have a flag at each call.
 fn fact_rule(most: usize, facts: u16) -> Rule
     ensures { result ≡ fact_rule most facts }
 {
     Rule {
         low: 0,
-        end: facts as usize,
+        end: usize::from(facts),
         most,
         ascending: true,
     }
@@ -54,24 +51,19 @@ pub(crate) struct Head {
     first: Vec<u16>,
 }
 
-fn read_head(reader: &mut Reader<'_>, heap: Global) -> Result<Head, ProblemFault>
-    ensures reads { Reads flaw_of (head_format.read reader.old.line reader.old.byte (left reader.old)) head_of result reader.new }
-    ensures text { reader.new.text.now ≡ reader.old.text.now }
+fn read_head(loader: &mut Loader<'_, Problem>) -> Result<Head, ProblemFault>
+    ensures { Reads (from head_format loader.old.reader) head_of result loader.new.reader }
 {
-    let shop = number(reader, b"shop", 0, 65536)?;
-    let facts = number(reader, b"facts", 1, 257)?;
-    let ops = number(reader, b"ops", 1, 65)?;
-    let tasks = number(reader, b"tasks", 0, 65)?;
-    let methods = number(reader, b"methods", 0, 129)?;
-    let start = list(reader, heap, b"start", fact_rule(256, facts))?;
-    let first = list(
-        reader,
-        heap,
-        b"first",
-        task_rule(16, ops as usize + tasks as usize),
-    )?;
+    let number = loader.number(b"shop", 0, 65536)?;
+    let facts = loader.number(b"facts", 1, 257)?;
+    let ops = loader.number(b"ops", 1, 65)?;
+    let tasks = loader.number(b"tasks", 0, 65)?;
+    let methods = loader.number(b"methods", 0, 129)?;
+    let start = loader.list(b"start", fact_rule(256, facts))?;
+    let end = usize::from(ops) + usize::from(tasks);
+    let first = loader.list(b"first", task_rule(16, end))?;
     Ok(Head {
-        number: shop,
+        number,
         facts,
         ops,
         tasks,
@@ -81,20 +73,15 @@ fn read_head(reader: &mut Reader<'_>, heap: Global) -> Result<Head, ProblemFault
     })
 }
 
-fn read_operator(
-    reader: &mut Reader<'_>,
-    heap: Global,
-    facts: u16,
-) -> Result<Operator, ProblemFault>
-    ensures reads { Reads flaw_of ((operator_format facts).read reader.old.line reader.old.byte (left reader.old)) operator_of result reader.new }
-    ensures text { reader.new.text.now ≡ reader.old.text.now }
+fn read_operator(loader: &mut Loader<'_, Problem>, facts: u16) -> Result<Operator, ProblemFault>
+    ensures { Reads (from (operator_format facts) loader.old.reader) operator_of result loader.new.reader }
 {
     let rule = fact_rule(8, facts);
-    let shelf = number(reader, b"shelf", 0, 65536)?;
-    let yes = list(reader, heap, b"yes", rule)?;
-    let no = list(reader, heap, b"no", rule)?;
-    let add = list(reader, heap, b"add", rule)?;
-    let del = list(reader, heap, b"del", rule)?;
+    let shelf = loader.number(b"shelf", 0, 65536)?;
+    let yes = loader.list(b"yes", rule)?;
+    let no = loader.list(b"no", rule)?;
+    let add = loader.list(b"add", rule)?;
+    let del = loader.list(b"del", rule)?;
     Ok(Operator {
         shelf,
         yes,
@@ -105,97 +92,62 @@ fn read_operator(
 }
 
 fn read_operators(
-    reader: &mut Reader<'_>,
-    heap: Global,
+    loader: &mut Loader<'_, Problem>,
     n: u16,
     facts: u16,
 ) -> Result<Vec<Operator>, ProblemFault>
-    ensures reads { Reads flaw_of ((times n (operator_format facts)).read reader.old.line reader.old.byte (left reader.old)) operators_of result reader.new }
-    ensures text { reader.new.text.now ≡ reader.old.text.now }
+    ensures { Reads (from (times n (operator_format facts)) loader.old.reader) operators_of result loader.new.reader }
 {
-    let mut all = Vec::with_capacity(heap, n as usize)?;
-    for _i in 0..n {
-        let next = read_operator(reader, heap, facts)?;
-        all.push(next)?;
-    }
-    Ok(all)
+    loader.times(n, |l| read_operator(l, facts))
 }
 
+// The numbers are cast, since `usize::from` leaves an equation that the search does not carry through the format.
 fn read_method(
-    reader: &mut Reader<'_>,
-    heap: Global,
+    loader: &mut Loader<'_, Problem>,
     facts: u16,
     ops: u16,
     tasks: u16,
 ) -> Result<Method, ProblemFault>
-    ensures reads { Reads flaw_of ((method_format facts ops tasks).read reader.old.line reader.old.byte (left reader.old)) method_of result reader.new }
-    ensures text { reader.new.text.now ≡ reader.old.text.now }
+    ensures { Reads (from (method_format facts ops tasks) loader.old.reader) method_of result loader.new.reader }
 {
     let rule = fact_rule(8, facts);
     let end = ops as usize + tasks as usize;
-    let task = number(reader, b"for", ops as usize, end)?;
-    let yes = list(reader, heap, b"yes", rule)?;
-    let no = list(reader, heap, b"no", rule)?;
-    let sub = list(reader, heap, b"sub", task_rule(8, end))?;
+    let task = loader.number(b"for", ops as usize, end)?;
+    let yes = loader.list(b"yes", rule)?;
+    let no = loader.list(b"no", rule)?;
+    let sub = loader.list(b"sub", task_rule(8, end))?;
     Ok(Method { task, yes, no, sub })
 }
 
 fn read_methods(
-    reader: &mut Reader<'_>,
-    heap: Global,
+    loader: &mut Loader<'_, Problem>,
     n: u16,
     facts: u16,
     ops: u16,
     tasks: u16,
 ) -> Result<Vec<Method>, ProblemFault>
-    ensures reads { Reads flaw_of ((times n (method_format facts ops tasks)).read reader.old.line reader.old.byte (left reader.old)) methods_of result reader.new }
-    ensures text { reader.new.text.now ≡ reader.old.text.now }
+    ensures { Reads (from (times n (method_format facts ops tasks)) loader.old.reader) methods_of result loader.new.reader }
 {
-    let mut all = Vec::with_capacity(heap, n as usize)?;
-    for _i in 0..n {
-        let next = read_method(reader, heap, facts, ops, tasks)?;
-        all.push(next)?;
-    }
-    Ok(all)
-}
-
-// Refuses bytes after the last line.
-pub(crate) fn finish(reader: &Reader<'_>) -> Result<(), Refusal>
-    ensures { Finishes reader.now result }
-{
-    if !reader.is_done() {
-        return Err(Refusal {
-            question: Question::FileEnds,
-            place: reader.place(),
-        });
-    }
-    Ok(())
+    loader.times(n, |l| read_method(l, facts, ops, tasks))
 }
 
 fn read_problem(heap: Global, text: &[u8]) -> Result<Problem, ProblemFault>
     ensures { ReadWhole text.now result }
 {
-    let mut reader = Reader::new(text);
-    let head = read_head(&mut reader, heap)?;
-    let operators = read_operators(&mut reader, heap, head.ops, head.facts)?;
-    let methods = read_methods(
-        &mut reader,
-        heap,
-        head.methods,
-        head.facts,
-        head.ops,
-        head.tasks,
-    )?;
-    finish(&reader)?;
+    let mut loader = Loader::new(heap, text);
+    let head = read_head(&mut loader)?;
     let Head {
         number,
         facts,
-        ops: _,
+        ops,
         tasks,
-        methods: _,
+        methods,
         start,
         first,
     } = head;
+    let operators = read_operators(&mut loader, ops, facts)?;
+    let methods = read_methods(&mut loader, methods, facts, ops, tasks)?;
+    loader.finish()?;
     Ok(Problem {
         number,
         facts,
@@ -212,26 +164,23 @@ impl Problem {
     pub fn new(heap: Global) -> Result<Problem, AllocError>
         ensures { IfOk result (λ p. problem_of p ≡ new_data) }
     {
-        let mut operators = Vec::new(heap);
-        let none = Operator {
-            shelf: 0,
-            yes: Vec::new(heap),
-            no: Vec::new(heap),
-            add: Vec::new(heap),
-            del: Vec::new(heap),
-        };
-        operators.push(none)?;
-        let start = Vec::new(heap);
-        let first = Vec::new(heap);
-        let methods = Vec::new(heap);
+        let operators = vec![in heap;
+            Operator {
+                shelf: 0,
+                yes: Vec::new(heap),
+                no: Vec::new(heap),
+                add: Vec::new(heap),
+                del: Vec::new(heap),
+            },
+        ]?;
         Ok(Problem {
             number: 0,
             facts: 1,
             tasks: 0,
-            start,
-            first,
+            start: Vec::new(heap),
+            first: Vec::new(heap),
             operators,
-            methods,
+            methods: Vec::new(heap),
         })
     }
 
@@ -240,7 +189,7 @@ impl Problem {
         ensures fills { Filled text.now self.old result self.new }
         ensures exactly { LoadsExactly text.now }
         ensures back { Back text.now result self.new }
-        ensures stops { Stops flaw_of text.now result }
+        ensures stops { Stops text.now result }
     {
         let loaded = read_problem(heap, text)?;
         *self = loaded;

@@ -1,70 +1,52 @@
 // Writes a plan as its text.
-ghost use Rattle.std.specs.Prelude.{◌≡◌, ◌≤◌, length, IfOk};
+ghost use Rattle.std.specs.Prelude.{◌≡◌, ◌<◌, ◌≤◌, not, length, position, IfOk, IfSome};
 ghost use Rattle.problem.specs.Loaded.{problem_of};
-ghost use Rattle.problem.specs.Plans.{row_text, plan_text, plan_refusal, known_among, unknown_at, unknown_in, PlanWritten, PlanLoadsBack};
-ghost use Rattle.problem.specs.PlanBytes.{plan_bytes};
+ghost use Rattle.problem.specs.Plans.{row_text, plan_text, plan_refusal, known, unknown_in, PlanWritten, PlanLoadsBack};
 
 use crate::definition::Problem;
 use crate::entries::Row;
 use crate::faults::RowFault;
-use base::Question;
-use text::{Render, Sink, number_line, put_all, write};
+use crate::listing::Listing;
+use base::{Question, ask};
+use text::{Render, Sink, number_line, write};
 
 impl Render for Row {
     ghost text = { row_text };
 
     fn render<S: Sink>(&self, sink: &mut S) {
         match *self {
-            Row::By(method) => number_line(sink, b"by", method as usize),
-            Row::Do(operator) => number_line(sink, b"do", operator as usize),
+            Row::By(method) => number_line(sink, b"by", usize::from(method)),
+            Row::Do(operator) => number_line(sink, b"do", usize::from(operator)),
         }
     }
-}
-
-// The rows with the number of their problem.
-#[derive(Drop)]
-pub(crate) struct PlanLines<'a> {
-    number: u16,
-    rows: &'a [Row],
-}
-
-impl<'a> Render for PlanLines<'a> {
-    ghost text = { plan_bytes };
-
-    fn render<S: Sink>(&self, sink: &mut S) {
-        number_line(sink, b"shop", self.number as usize);
-        number_line(sink, b"rows", self.rows.len());
-        put_all(sink, self.rows);
-    }
-}
-
-fn is_known(row: Row, methods: usize, ops: usize) -> bool
-    ensures { result ≡ known_among methods ops row }
-{
-    match row {
-        Row::By(method) => (method as usize) < methods,
-        Row::Do(operator) => (operator as usize) < ops,
-    }
-}
-
-// The first row, counted from 1, that names no method or operator.
-fn first_unknown(rows: &[Row], methods: usize, ops: usize) -> Option<usize>
-    ensures { result ≡ unknown_at methods ops 1 rows.now }
-{
-    for (at, row) in rows.iter().enumerate() {
-        if !is_known(*row, methods, ops) {
-            return Some(at + 1);
-        }
-    }
-    None
 }
 
 impl Problem {
+    // Whether the row names a method or an operator of the problem.
+    #[tactic(auto, using(crate::proofs::Texts::methods_are, crate::proofs::Texts::operators_are))]
+    fn knows(&self, row: Row) -> bool
+        ensures { result ≡ known (problem_of self.now) row }
+    {
+        match row {
+            Row::By(method) => usize::from(method) < self.methods.len(),
+            Row::Do(operator) => usize::from(operator) < self.operators.len(),
+        }
+    }
+
+    // The index of the first row that names no method or operator of the problem.
+    fn unknown(&self, rows: &[Row]) -> Option<usize>
+        ensures is { result ≡ position (λ r. not (known (problem_of self.now) r)) rows.now }
+        ensures within { IfSome result (λ at. at < length rows.now) }
+    {
+        rows.iter().position(|row| !self.knows(*row))
+    }
+
     // Question 4 of a plan: the first row, counted from 1, that names no method or operator of the problem.
     pub fn first_unknown(&self, rows: &[Row]) -> Option<usize>
         ensures { result ≡ unknown_in (problem_of self.now) rows.now }
     {
-        first_unknown(rows, self.methods.len(), self.operators.len())
+        let at = self.unknown(rows)?;
+        Some(at + 1)
     }
 
     // Writes the plan's text at the start of the bytes and answers its length; a refusal alters nothing.
@@ -73,27 +55,19 @@ impl Problem {
         ensures within { IfOk result (λ n. n ≤ length bytes.old) }
         ensures loads_back { PlanLoadsBack (problem_of self.now) rows.now bytes.new result }
     {
-        if rows.len() > 2000 {
-            return Err(RowFault {
-                question: Question::WithinRowLimit,
-                row: 0,
-            });
-        }
-        if let Some(row) = first_unknown(rows, self.methods.len(), self.operators.len()) {
+        // validation asks the same two questions; a call for both would be public
+        ask(rows.len() <= 2000, Question::WithinRowLimit)?;
+        if let Some(row) = self.first_unknown(rows) {
             return Err(RowFault {
                 question: Question::NumberInRange,
                 row,
             });
         }
-        match write(
-            bytes,
-            &PlanLines {
-                number: self.number,
-                rows,
-            },
-        ) {
-            Ok(count) => Ok(count),
-            Err(question) => Err(RowFault { question, row: 0 }),
-        }
+        let lines = Listing {
+            number: self.number,
+            items: rows,
+        };
+        let count = write(bytes, &lines)?;
+        Ok(count)
     }
 }

@@ -1,45 +1,12 @@
 // The lines that programs print of a fault and of a problem.
-ghost use Rattle.std.specs.Prelude.{◌≡◌, Some, None};
 ghost use Rattle.text.specs.Rendered.{Written};
 ghost use Rattle.problem.specs.Loaded.{problem_of};
-ghost use Rattle.problem.specs.Reports.{refusal_of, plan_refusal_of, fault_line, fault_bytes, summary, summary_bytes};
+ghost use Rattle.problem.specs.Reports.{fault_line, fault_bytes, summary, summary_bytes};
 
 use crate::definition::Problem;
-use crate::faults::{PlanFault, ProblemFault, Refusal};
+use crate::faults::Refusal;
 use base::Question;
 use text::{Render, Sink, number_line, put_bytes, put_number, write};
-
-impl ProblemFault {
-    // The question and the place, whoever asked; want of memory has none.
-    pub fn refusal(self) -> Option<Refusal>
-        ensures { result ≡ refusal_of self }
-    {
-        match self {
-            ProblemFault::Text(f) => Some(Refusal {
-                question: f.question,
-                place: f.place,
-            }),
-            ProblemFault::Entry(f) => Some(f),
-            ProblemFault::Memory => None,
-        }
-    }
-}
-
-impl PlanFault {
-    // The question and the place, whoever asked; want of memory has none.
-    pub fn refusal(self) -> Option<Refusal>
-        ensures { result ≡ plan_refusal_of self }
-    {
-        match self {
-            PlanFault::Text(f) => Some(Refusal {
-                question: f.question,
-                place: f.place,
-            }),
-            PlanFault::Entry(f) => Some(f),
-            PlanFault::Memory => None,
-        }
-    }
-}
 
 // A refusal of the text that the subject names.
 #[derive(Drop)]
@@ -55,7 +22,7 @@ impl<'a> Render for FaultLine<'a> {
         put_bytes(sink, b"fault=");
         put_bytes(sink, self.subject);
         put_bytes(sink, b",");
-        put_number(sink, self.refusal.question.number() as usize);
+        put_number(sink, usize::from(self.refusal.question.number()));
         put_bytes(sink, b",");
         put_number(sink, self.refusal.place.line);
         put_bytes(sink, b",");
@@ -92,10 +59,10 @@ impl<'a> Render for Summary<'a> {
     ghost text = { summary_bytes };
 
     fn render<S: Sink>(&self, sink: &mut S) {
-        number_line(sink, b"shop", self.problem.number as usize);
-        number_line(sink, b"facts", self.problem.facts as usize);
+        number_line(sink, b"shop", usize::from(self.problem.number));
+        number_line(sink, b"facts", usize::from(self.problem.facts));
         number_line(sink, b"ops", self.problem.operators.len());
-        number_line(sink, b"tasks", self.problem.tasks as usize);
+        number_line(sink, b"tasks", usize::from(self.problem.tasks));
         number_line(sink, b"methods", self.problem.methods.len());
         number_line(sink, b"first", self.problem.first.len());
         number_line(sink, b"bytes", self.bytes);

@@ -15,7 +15,7 @@ impl Render for Operator {
     ghost text = { operator_bytes };
 
     fn render<S: Sink>(&self, sink: &mut S) {
-        number_line(sink, b"shelf", self.shelf as usize);
+        number_line(sink, b"shelf", usize::from(self.shelf));
         list_line(sink, b"yes", self.yes.as_slice());
         list_line(sink, b"no", self.no.as_slice());
         list_line(sink, b"add", self.add.as_slice());
@@ -27,7 +27,7 @@ impl Render for Method {
     ghost text = { method_bytes };
 
     fn render<S: Sink>(&self, sink: &mut S) {
-        number_line(sink, b"for", self.task as usize);
+        number_line(sink, b"for", usize::from(self.task));
         list_line(sink, b"yes", self.yes.as_slice());
         list_line(sink, b"no", self.no.as_slice());
         list_line(sink, b"sub", self.sub.as_slice());
@@ -37,10 +37,10 @@ impl Render for Method {
 fn head_lines<S: Sink>(sink: &mut S, p: &Problem)
     ensures { Fed S.takes sink.old (head_bytes p.now) sink.new }
 {
-    number_line(sink, b"shop", p.number as usize);
-    number_line(sink, b"facts", p.facts as usize);
+    number_line(sink, b"shop", usize::from(p.number));
+    number_line(sink, b"facts", usize::from(p.facts));
     number_line(sink, b"ops", p.operators.len());
-    number_line(sink, b"tasks", p.tasks as usize);
+    number_line(sink, b"tasks", usize::from(p.tasks));
     number_line(sink, b"methods", p.methods.len());
     list_line(sink, b"start", p.start.as_slice());
     list_line(sink, b"first", p.first.as_slice());

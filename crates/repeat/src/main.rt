@@ -11,7 +11,8 @@ use std::env;
 use texts::{load, write};
 use validation::validate_plan;
 
-fn run(rt: &HostRuntime) -> anyhow::Result<()> {
+fn main(rt: HostRuntime) -> anyhow::Result<()> {
+    let rt = &rt;
     let mut words = env::args(rt)?;
     let _program = words.next();
     let mode = words
@@ -22,6 +23,7 @@ fn run(rt: &HostRuntime) -> anyhow::Result<()> {
         .context("a word is missing: how often")?
         .parse::<u32>()?;
     let text = first_bytes(rt.alloc(), &mut rt.stdin())?;
+    // three words, each with its own steps
     let (counted, sum) = match mode.as_str() {
         "load" => ("bytes", load(rt, text.as_slice(), times)?),
         "write" => ("bytes", write(rt, text.as_slice(), times)?),
@@ -35,8 +37,4 @@ fn run(rt: &HostRuntime) -> anyhow::Result<()> {
     println!(rt; "{mode}={times}")?;
     println!(rt; "{counted}={sum}")?;
     Ok(())
-}
-
-fn main(rt: HostRuntime) -> anyhow::Result<()> {
-    run(&rt)
 }

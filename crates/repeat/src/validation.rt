@@ -1,30 +1,19 @@
 // A plan, validated many times over.
 use crate::texts::load_once;
-use anyhow::anyhow;
-use input::first_bytes;
+use anyhow::Context;
+use input::first_bytes_of;
 use problem::{Problem, Row};
-use rules::Limits;
+use rules::WIDEST;
 use state::BitState;
-use std::fs;
 use validate::validate;
-
-// The greatest limits, so that any solution within them passes.
-const LIMITS: Limits = Limits {
-    levels: 32,
-    rows: 2000,
-};
 
 // The rows of the plan in the file.
 fn load_rows(rt: &HostRuntime, problem: &Problem, path: &str) -> anyhow::Result<Vec<Row>> {
-    let text = first_bytes(rt.alloc(), &mut fs::open(rt, path)?)?;
-    let mut rows = vec![in rt.alloc(); Row::Do(0); 2000]?;
-    match problem.load_plan(rt.alloc(), text.as_slice(), &mut rows) {
-        Ok(count) => {
-            rows.truncate(count);
-            Ok(rows)
-        }
-        Err(_) => Err(anyhow!("the file is no plan of the problem")),
-    }
+    let text = first_bytes_of(rt, path)?;
+    problem
+        .load_rows(rt.alloc(), &text)
+        .ok()
+        .context("the file is no plan of the problem")
 }
 
 // Loads problem and plan once and validates the plan so many times, and answers how many rows passed in all.
@@ -34,9 +23,9 @@ pub fn validate_plan(rt: &HostRuntime, text: &[u8], path: &str, times: u32) -> a
     let mut state = BitState::new();
     let mut sum = 0u64;
     for _ in 0..times {
-        let Ok(count) = validate(rt.alloc(), &problem, rows.as_slice(), LIMITS, &mut state) else {
-            return Err(anyhow!("the plan is no solution"));
-        };
+        let count = validate(rt.alloc(), &problem, rows.as_slice(), WIDEST, &mut state)
+            .ok()
+            .context("the plan is no solution")?;
         sum = sum.saturating_add(count as u64);
     }
     Ok(sum)

@@ -1,8 +1,9 @@
 -- Operators and methods as the code finds them, and that the facts they name are the problem's. Assumes nothing.
-use Rattle.std.proofs.Common.{◌≡◌, ℕ, zero, suc, ◌+◌, ◌<◌, ◌≤◌, Bool, true, ◌&&◌, ltb, leb, List, [], ◌∷◌, map, length, get_or, vec_items, sym, refl, ap, ◌∙◌, subst, ⊎_elim, arith}
+use Rattle.std.proofs.Common.{◌≡◌, ℕ, zero, suc, ◌+◌, ◌<◌, ◌≤◌, Bool, true, ◌&&◌, MatchOption, Bor, Some, None, Option, ltb, leb, List, [], ◌∷◌, map, length, get_or, vec_items, sym, refl, ap, ◌∙◌, subst, ⊎_elim, arith}
 use lib.ListN.{length-map}
 use Rattle.std.proofs.lemmas.List.{get_or-map, get_or_past}
-use Rattle.std.proofs.lemmas.Bool.{and_parts, cases_lt}
+use Rattle.std.proofs.lemmas.Bool.{and_parts, cases_lt, ltb-true}
+use Rattle.std.specs.Slice.{IsItemAt}
 use Rattle.problem.specs.declared.definition.Problem.{Problem}
 use Rattle.problem.specs.declared.entries.Operator.{Operator}
 use Rattle.problem.specs.declared.entries.Method.{Method}
@@ -11,11 +12,11 @@ use Rattle.problem.specs.Legal.{legal, every, between, fact_list, task_list, leg
 use Rattle.problem.specs.Loaded.{problem_of}
 use Rattle.rules.specs.Tasks.{operator_at, method_at, no_operator, no_method}
 
-pub operators_long : (p : Problem) → length (problem_of p).operators ≡ length (vec_items p.operators)
+operators_long : (p : Problem) → length (problem_of p).operators ≡ length (vec_items p.operators)
 unfolding problem_of
 operators_long p = length-map (vec_items p.operators) operator_of
 
-pub methods_long : (p : Problem) → length (problem_of p).methods ≡ length (vec_items p.methods)
+methods_long : (p : Problem) → length (problem_of p).methods ≡ length (vec_items p.methods)
 unfolding problem_of
 methods_long p = length-map (vec_items p.methods) method_of
 
@@ -27,12 +28,22 @@ operator_some p o w os is l e = ap (λ xs. get_or (map operator_of xs) o no_oper
 pub operator_none : (p : Problem) (o : ℕ) (os : List Operator) → os ≡ vec_items p.operators → length os ≤ o → operator_at (problem_of p) o ≡ no_operator
 operator_none p o os is l = get_or_past (problem_of p).operators o no_operator (omega (arith, operators_long p, ap length is))
 
-pub method_some : (p : Problem) (m : ℕ) (w : Method) (ms : List Method) → ms ≡ vec_items p.methods → m < length ms → w ≡ get_or ms m w → method_at (problem_of p) m ≡ method_of w
+method_some : (p : Problem) (m : ℕ) (w : Method) (ms : List Method) → ms ≡ vec_items p.methods → m < length ms → w ≡ get_or ms m w → method_at (problem_of p) m ≡ method_of w
 unfolding problem_of
 method_some p m w ms is l e = ap (λ xs. get_or (map method_of xs) m no_method) (sym is) ∙ get_or-map method_of ms m w no_method l ∙ ap method_of (sym e)
 
-pub method_none : (p : Problem) (m : ℕ) (ms : List Method) → ms ≡ vec_items p.methods → length ms ≤ m → method_at (problem_of p) m ≡ no_method
+method_none : (p : Problem) (m : ℕ) (ms : List Method) → ms ≡ vec_items p.methods → length ms ≤ m → method_at (problem_of p) m ≡ no_method
 method_none p m ms is l = get_or_past (problem_of p).methods m no_method (omega (arith, methods_long p, ap length is))
+
+pub operator_found : (p : Problem) (o : ℕ) (os : List Operator) (r : Option (Bor Operator)) → os ≡ vec_items p.operators → IsItemAt os o r
+    → MatchOption r (operator_at (problem_of p) o ≡ no_operator) (λ w. operator_at (problem_of p) o ≡ operator_of w.now)
+operator_found p o os None is f = operator_none p o os is f.3
+operator_found p o os (Some w) is f = operator_some p o w.now os is (ltb-true _ _ (sym f.0)) f.1
+
+pub method_found : (p : Problem) (m : ℕ) (ms : List Method) (r : Option (Bor Method)) → ms ≡ vec_items p.methods → IsItemAt ms m r
+    → MatchOption r (method_at (problem_of p) m ≡ no_method) (λ w. method_at (problem_of p) m ≡ method_of w.now)
+method_found p m ms None is f = method_none p m ms is f.3
+method_found p m ms (Some w) is f = method_some p m w.now ms is (ltb-true _ _ (sym f.0)) f.1
 
 -- Every problem is legal.
 

@@ -1,17 +1,12 @@
 -- Facts beyond the problem's: no condition asks for one, and no effect reaches one. Assumes nothing.
-use Rattle.std.proofs.Common.{◌≡◌, ℕ, zero, suc, ◌<◌, Bool, true, false, not, ◌&&◌, ltb, List, [], ◌∷◌, take, drop, set, unwrap_or, refl, ap, ◌∙◌, ap₂, arith}
-use Rattle.std.specs.List.{slice_get}
+use Rattle.std.proofs.Common.{◌≡◌, ℕ, zero, suc, ◌<◌, Bool, true, false, not, ◌&&◌, ltb, List, [], ◌∷◌, take, drop, set, sym, refl, ap, ◌∙◌, ap₂}
+use Rattle.std.specs.List.{list_all}
 use Rattle.std.proofs.lemmas.Bool.{and_parts, ltb-true}
-use Rattle.std.proofs.lemmas.List.{drop-set-lt}
+use Rattle.std.proofs.lemmas.List.{drop-set-lt, get_or-take}
+use Rattle.std.proofs.lemmas.Option.{unwrap_or-slice_get}
 use Rattle.problem.specs.Legal.{every}
-use Rattle.rules.specs.Effects.{holds, all_hold, none_holds, conditions, assigned, changed}
+use Rattle.rules.specs.Effects.{holds, conditions, assigned, changed}
 use Rattle.rules.proofs.Lookup.{Below}
-
-nth_take : {X : Type 0} (n : ℕ) (xs : List X) (i : ℕ) → i < n → slice_get (take n xs) i ≡ slice_get xs i
-nth_take zero xs i h = absurd (omega arith)
-nth_take (suc n) [] i h = refl
-nth_take (suc n) (x ∷ xs) zero h = refl
-nth_take (suc n) (x ∷ xs) (suc i) h = nth_take n xs i (omega arith)
 
 take_of_set : {X : Type 0} (m : ℕ) (xs : List X) (i : ℕ) (v : X) → take m (set xs i v) ≡ set (take m xs) i v
 take_of_set zero xs i v = refl
@@ -20,22 +15,19 @@ take_of_set (suc m) (x ∷ xs) zero v = refl
 take_of_set (suc m) (x ∷ xs) (suc i) v = ap (λ z. x ∷ z) (take_of_set m xs i v)
 
 holds_take : (n : ℕ) (fs : List Bool) (i : ℕ) → i < n → holds (take n fs) i ≡ holds fs i
-holds_take n fs i h = ap (λ o. unwrap_or o false) (nth_take n fs i h)
+holds_take n fs i h = unwrap_or-slice_get (take n fs) i false ∙ get_or-take n fs i false h ∙ sym (unwrap_or-slice_get fs i false)
 
-all_take : (n : ℕ) (fs : List Bool) (ns : List ℕ) → Below n ns → all_hold (take n fs) ns ≡ all_hold fs ns
-all_take n fs [] e = refl
-all_take n fs (x ∷ ns) e =
-    let p = and_parts (ltb x n) (every (λ k. ltb k n) ns) e in
-    ap₂ ◌&&◌ (holds_take n fs x (ltb-true x n p.0)) (all_take n fs ns p.1)
-
-none_take : (n : ℕ) (fs : List Bool) (ns : List ℕ) → Below n ns → none_holds (take n fs) ns ≡ none_holds fs ns
-none_take n fs [] e = refl
-none_take n fs (x ∷ ns) e =
-    let p = and_parts (ltb x n) (every (λ k. ltb k n) ns) e in
-    ap₂ (λ a b. not a && b) (holds_take n fs x (ltb-true x n p.0)) (none_take n fs ns p.1)
+-- tests that answer alike below n
+all_alike : (p q : ℕ → Bool) (n : ℕ) (ns : List ℕ) → ((i : ℕ) → i < n → p i ≡ q i) → Below n ns → list_all p ns ≡ list_all q ns
+all_alike p q n [] same e = refl
+all_alike p q n (x ∷ ns) same e =
+    let w = and_parts (ltb x n) (every (λ k. ltb k n) ns) e in
+    ap₂ ◌&&◌ (same x (ltb-true x n w.0)) (all_alike p q n ns same w.1)
 
 pub conditions_take : (n : ℕ) (fs : List Bool) (ys ns : List ℕ) → Below n ys → Below n ns → conditions (take n fs) ys ns ≡ conditions fs ys ns
-conditions_take n fs ys ns a b = ap₂ ◌&&◌ (all_take n fs ys a) (none_take n fs ns b)
+conditions_take n fs ys ns a b =
+    ap₂ ◌&&◌ (all_alike (holds (take n fs)) (holds fs) n ys (holds_take n fs) a)
+    (all_alike (λ i. not (holds (take n fs) i)) (λ i. not (holds fs i)) n ns (λ i h. ap not (holds_take n fs i h)) b)
 
 assigned_take : (v : Bool) (n : ℕ) (fs : List Bool) (ns : List ℕ) → take n (assigned v fs ns) ≡ assigned v (take n fs) ns
 assigned_take v n fs [] = refl

@@ -1,11 +1,12 @@
 -- The start facts on a state. Assumes nothing.
 use Rattle.std.proofs.Common.{◌≡◌, ℕ, ◌+◌, ◌<◌, Bool, true, false, ltb, List, [], ◌∷◌, ◌++◌, length, get_or, take, drop, set, replicate, sym, refl, ap, ◌∙◌, ap₂, append_assoc, arith, length-append, length-set}
-use Rattle.std.proofs.lemmas.Bool.{and_parts, ltb-true}
+use Rattle.std.proofs.lemmas.Bool.{and_parts, ltb-true, cond-true}
 use Rattle.std.proofs.lemmas.List.{drop_more, set_at, replicate_more, length-replicate, set-append_left, take_at, drop_at}
 use Rattle.problem.specs.Data.{ProblemData}
 use Rattle.problem.specs.Legal.{legal, every}
 use Rattle.rules.specs.Effects.{assigned}
 use Rattle.rules.specs.Places.{start_facts, started}
+use Rattle.rules.specs.Starting.{large_enough, start_leaves}
 use Rattle.rules.proofs.Lookup.{Below, start_below}
 use Rattle.rules.proofs.Steps.{assigned_long}
 
@@ -25,10 +26,11 @@ assigned_left v xs ys (k ∷ ns) n e h =
     ∙ assigned_left v (set xs k v) ys ns n (length-set xs k v ∙ e) p.1
 
 -- all are cleared, and then those of the start are set
-pub start_put : (P : ProblemData) → legal P ≡ true → (fs gs hs : List Bool) (n : ℕ) (ns : List ℕ) → n ≡ P.facts → ns ≡ P.start → gs ≡ replicate n false ++ drop n fs → hs ≡ assigned true gs ns → hs ≡ started P fs
-start_put P keeps fs gs hs n ns ne nse e h =
-    h ∙ ap₂ (assigned true) (e ∙ ap (λ k. replicate k false ++ drop k fs) ne) nse
+pub start_put : (P : ProblemData) → legal P ≡ true → (fs gs hs : List Bool) (ns : List ℕ) → large_enough P fs ≡ true → ns ≡ P.start → gs ≡ replicate P.facts false ++ drop P.facts fs → hs ≡ assigned true gs ns → hs ≡ start_leaves P fs
+start_put P keeps fs gs hs ns large is e h =
+    h ∙ ap₂ (assigned true) e is
     ∙ assigned_left true (replicate P.facts false) (drop P.facts fs) P.start P.facts (length-replicate P.facts false) (start_below P keeps)
+    ∙ sym (cond-true (large_enough P fs) (started P fs) fs large)
 
 start_long : (P : ProblemData) → length (start_facts P) ≡ P.facts
 start_long P = assigned_long true P.start (replicate P.facts false) ∙ length-replicate P.facts false

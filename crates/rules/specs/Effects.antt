@@ -1,6 +1,6 @@
 -- What conditions and effects mean on a list of facts. Assumes nothing.
-use Rattle.std.specs.Prelude.{ℕ, Bool, true, false, not, ◌&&◌, List, [], ◌∷◌, fold, slice_set}
-use Rattle.std.specs.List.{slice_get}
+use Rattle.std.specs.Prelude.{ℕ, Bool, true, false, not, ◌&&◌, List, fold, slice_set}
+use Rattle.std.specs.List.{slice_get, list_all}
 use Rattle.std.specs.Option.{unwrap_or}
 
 -- whether a fact holds: one that the list does not have does not
@@ -8,12 +8,10 @@ abbrev pub holds : List Bool → ℕ → Bool
 holds facts n = unwrap_or (slice_get facts n) false
 
 abbrev pub all_hold : List Bool → List ℕ → Bool
-all_hold facts [] = true
-all_hold facts (n ∷ ns) = holds facts n && all_hold facts ns
+all_hold facts ns = list_all (holds facts) ns
 
 abbrev pub none_holds : List Bool → List ℕ → Bool
-none_holds facts [] = true
-none_holds facts (n ∷ ns) = not (holds facts n) && none_holds facts ns
+none_holds facts ns = list_all (λ n. not (holds facts n)) ns
 
 -- each fact of `yes` holds, and none of `no`
 abbrev pub conditions : List Bool → List ℕ → List ℕ → Bool

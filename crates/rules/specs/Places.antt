@@ -27,10 +27,18 @@ start_place P = record { facts = start_facts P; todo = at_level 1 P.first }
 abbrev pub performed : ProblemData → ℕ → List Bool → List Bool
 performed P o s = changed s (operator_at P o).del (operator_at P o).add
 
+-- the facts that must hold for a row's operator or method, and those that must not
+abbrev pub yes_of : ProblemData → Row → List ℕ
+yes_of P (Do o) = (operator_at P o).yes
+yes_of P (By m) = (method_at P m).yes
+
+abbrev pub no_of : ProblemData → Row → List ℕ
+no_of P (Do o) = (operator_at P o).no
+no_of P (By m) = (method_at P m).no
+
 -- the conditions of a row's operator or method hold
 abbrev pub enabled : ProblemData → Row → List Bool → Bool
-enabled P (Do o) s = conditions s (operator_at P o).yes (operator_at P o).no
-enabled P (By m) s = conditions s (method_at P m).yes (method_at P m).no
+enabled P r s = conditions s (yes_of P r) (no_of P r)
 
 abbrev pub is_empty : {X : Type 0} → List X → Bool
 is_empty [] = true

@@ -1,6 +1,6 @@
 -- Which rows are a solution, in the subject's words. Assumes nothing.
-use Rattle.std.specs.Prelude.{◌≡◌, ℕ, ◌+◌, ◌<◌, ◌≤◌, Bool, true, false, ◌⊎◌, List, [], ◌∷◌, ◌++◌, length}
-use Rattle.std.specs.List.{AllByRecursion}
+use Rattle.std.specs.Prelude.{◌≡◌, ℕ, ◌+◌, ◌<◌, ◌≤◌, Bool, true, false, List, [], ◌∷◌, ◌++◌, length}
+use Rattle.std.specs.List.{All, AllByRecursion}
 use Rattle.problem.specs.Data.{ProblemData}
 use Rattle.problem.specs.declared.entries.Row.{Row}
 use Rattle.problem.specs.declared.entries.Row.TheVariants.{By, Do}
@@ -10,13 +10,9 @@ use Rattle.rules.specs.Effects.{holds}
 use Rattle.rules.specs.Tasks.{operator_at, method_at, kind_of}
 use Rattle.rules.specs.Places.{Place, at_level, start_place, performed}
 
-abbrev pub In : {X : Type 0} → List X → X → Type 0
-In [] x = ⊥
-In (y ∷ ys) x = (y ≡ x) ⊎ In ys x
-
 -- every fact of the first list holds, and none of the second
 abbrev pub Holds : List Bool → List ℕ → List ℕ → Type 0
-Holds s ys ns = ((f : ℕ) → In ys f → holds s f ≡ true) × ((f : ℕ) → In ns f → holds s f ≡ false)
+Holds s ys ns = All (λ f. holds s f ≡ true) ys × All (λ f. holds s f ≡ false) ns
 
 -- Rows.
 

@@ -1,41 +1,39 @@
 // What is asked of a row at the first open task.
 ghost use Rattle.std.specs.Prelude.{◌≡◌, take};
 ghost use Rattle.problem.specs.Loaded.{problem_of};
-ghost use Rattle.rules.specs.Effects.{conditions};
 ghost use Rattle.rules.specs.Tasks.{sub_of};
-ghost use Rattle.rules.specs.Places.{enabled, fits_level, level_right};
+ghost use Rattle.rules.specs.Places.{yes_of, no_of, enabled, fits_level, level_right};
 
 use crate::entries::OpenTask;
 use crate::facts::conditions_hold;
-use problem::{Method, Operator, Problem, Row};
+use crate::numbered::{method_at, operator_at};
+use problem::{Problem, Row};
 use state::State;
 
-fn is_applicable<S: State>(operator: &Operator, state: &S) -> bool
-    ensures { result ≡ conditions (S.facts state.now) operator.now.yes.items operator.now.no.items }
+// The facts that must hold for the row's operator or method, and those that must not; both none where there is no such one.
+fn conditions_of(problem: &Problem, row: Row) -> (&[u16], &[u16])
+    ensures yes { result.0.now ≡ yes_of (problem_of problem.now) row }
+    ensures no { result.1.now ≡ no_of (problem_of problem.now) row }
 {
-    conditions_hold(state, operator.yes.as_slice(), operator.no.as_slice())
-}
-
-fn is_usable<S: State>(method: &Method, state: &S) -> bool
-    ensures { result ≡ conditions (S.facts state.now) method.now.yes.items method.now.no.items }
-{
-    conditions_hold(state, method.yes.as_slice(), method.no.as_slice())
+    match row {
+        Row::Do(operator) => operator_at(problem, operator).map_or(
+            (&[], &[]),
+            |entry| (entry.yes.as_slice(), entry.no.as_slice()),
+        ),
+        Row::By(method) => method_at(problem, method).map_or(
+            (&[], &[]),
+            |entry| (entry.yes.as_slice(), entry.no.as_slice()),
+        ),
+    }
 }
 
 // Whether the conditions of the row's operator or method hold. They speak of the problem's facts alone.
+#[tactic(auto, using(crate::proofs::Conditions::enabled_is, problem::proofs::Texts::keeps))]
 pub fn is_enabled<S: State>(problem: &Problem, row: Row, state: &S) -> bool
     ensures { result ≡ enabled (problem_of problem.now) row (take (problem_of problem.now).facts (S.facts state.now)) }
 {
-    match row {
-        Row::Do(operator) => match problem.operators.as_slice().get(operator as usize) {
-            None => true,
-            Some(entry) => is_applicable(entry, state),
-        },
-        Row::By(method) => match problem.methods.as_slice().get(method as usize) {
-            None => true,
-            Some(entry) => is_usable(entry, state),
-        },
-    }
+    let (yes, no) = conditions_of(problem, row);
+    conditions_hold(state, yes, no)
 }
 
 // The tasks that the row puts in the place of its task: those of its method, and none where it does an operator.
@@ -44,10 +42,7 @@ pub fn subtasks(problem: &Problem, row: Row) -> &[u16]
 {
     match row {
         Row::Do(_) => &[],
-        Row::By(method) => match problem.methods.as_slice().get(method as usize) {
-            None => &[],
-            Some(entry) => entry.sub.as_slice(),
-        },
+        Row::By(method) => method_at(problem, method).map_or(&[], |entry| entry.sub.as_slice()),
     }
 }
 

@@ -13,3 +13,9 @@ pub struct Limits {
     pub levels: u8,
     pub rows: u16,
 }
+
+// The greatest limits, so that any solution within them passes.
+pub const WIDEST: Limits = Limits {
+    levels: 32,
+    rows: 2000,
+};

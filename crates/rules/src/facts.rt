@@ -5,7 +5,8 @@ ghost use Rattle.rules.specs.Effects.{holds, conditions, assigned, changed};
 ghost use Rattle.rules.specs.Places.{worked};
 ghost use Rattle.rules.specs.Starting.{start_answer, start_leaves};
 
-use base::Question;
+use crate::numbered::operator_at;
+use base::{Question, ask};
 use problem::{Operator, Problem, Row};
 use state::State;
 
@@ -56,14 +57,16 @@ pub fn perform<S: State>(problem: &Problem, row: Row, state: &mut S)
 {
     match row {
         Row::By(_) => {}
-        Row::Do(operator) => match problem.operators.as_slice().get(operator as usize) {
-            None => {}
-            Some(entry) => apply(state, entry),
-        },
+        Row::Do(operator) => {
+            if let Some(entry) = operator_at(problem, operator) {
+                apply(state, entry);
+            }
+        }
     }
 }
 
-// No fact below the count holds any more.
+// No fact below the count holds any more. The facts are numbers, so nothing is indexed here.
+#[tactic(auto, using(crate::proofs::Starts::clear_more))]
 fn clear<S: State>(state: &mut S, count: u16)
     requires { count ≤ length (S.facts state.old) }
     ensures { S.facts state.new ≡ replicate count false ++ drop count (S.facts state.old) }
@@ -73,14 +76,14 @@ fn clear<S: State>(state: &mut S, count: u16)
     }
 }
 
-// Puts the problem's start facts on the state; those beyond the problem's stay. A state with too few facts is refused, and left.
+// Puts the problem's start facts on the state; those beyond the problem's stay. A state with too few facts is refused, and
+// left.
+#[tactic(auto, unfolding(problem::specs::Loaded::problem_of))]
 pub fn put_start<S: State>(problem: &Problem, state: &mut S) -> Result<(), Question>
     ensures after { S.facts state.new ≡ start_leaves (problem_of problem.now) (S.facts state.old) }
     ensures value { result ≡ start_answer (problem_of problem.now) (S.facts state.old) }
 {
-    if state.size() < problem.facts {
-        return Err(Question::StateLargeEnough);
-    }
+    ask(problem.facts <= state.size(), Question::StateLargeEnough)?;
     clear(state, problem.facts);
     set_all(state, problem.start.as_slice(), true);
     Ok(())

@@ -3,9 +3,10 @@ ghost use Rattle.std.specs.Prelude.{◌≡◌};
 ghost use Rattle.problem.specs.Loaded.{problem_of};
 ghost use Rattle.rules.specs.Tasks.{kind_among, kind_of, target_of, suits_kind, suits};
 
+use crate::numbered::method_at;
 use problem::{Problem, Row};
 
-// A task number read against a problem.
+// A task number read against a problem. Three cases by name, as the rules have them, and no Option of two.
 #[derive(Clone, Copy, Debug)]
 pub enum TaskKind {
     Operator(u16),
@@ -18,29 +19,27 @@ fn kind_among(operators: usize, compounds: u16, task: u16) -> TaskKind
     ensures { result ≡ kind_among operators compounds task }
 {
     match task {
-        t if (t as usize) < operators => TaskKind::Operator(t),
-        t if (t as usize) - operators < compounds as usize => TaskKind::Compound(t),
+        t if usize::from(t) < operators => TaskKind::Operator(t),
+        t if usize::from(t) - operators < usize::from(compounds) => TaskKind::Compound(t),
         _ => TaskKind::OutOfRange,
     }
 }
 
 // What the task number means in the problem.
+#[tactic(auto, using(problem::proofs::Texts::operators_are), unfolding(problem::specs::Loaded::problem_of))]
 pub fn task_kind(problem: &Problem, task: u16) -> TaskKind
     ensures { result ≡ kind_of (problem_of problem.now) task }
 {
     kind_among(problem.operators.len(), problem.tasks, task)
 }
 
-// The task that the row's method is for; 0 where there is no such method.
+// The task that the row's method is for; 0 where there is no such method, as the definitions have it.
 fn target(problem: &Problem, row: Row) -> u16
     ensures { result ≡ target_of (problem_of problem.now) row }
 {
     match row {
         Row::Do(_) => 0,
-        Row::By(method) => match problem.methods.as_slice().get(method as usize) {
-            None => 0,
-            Some(entry) => entry.task,
-        },
+        Row::By(method) => method_at(problem, method).map_or(0, |entry| entry.task),
     }
 }
 

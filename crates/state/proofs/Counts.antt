@@ -1,9 +1,9 @@
 -- Facts that are a test of their number: which answer each gives, and what one change leaves. Assumes nothing.
-use Rattle.std.proofs.Common.{◌≡◌, ℕ, ◌<◌, Bool, false, map, length, get_or, set, Some, sym, ap, ◌∙◌, ⊎_elim, arith, length-set}
+use Rattle.std.proofs.Common.{◌≡◌, ℕ, ◌<◌, ◌≤◌, Bool, false, map, length, get_or, set, None, Some, sym, ap, ◌∙◌, ⊎_elim, arith, length-set}
 use Rattle.std.specs.List.{slice_get, range_with_len}
 use Rattle.std.proofs.lemmas.List.FromFn.{length-map-range_with_len, get_or-map-range_with_len}
 use Rattle.std.proofs.lemmas.List.{ext_get_or, get_or-set_same, get_or-set_other}
-use Rattle.std.proofs.lemmas.Option.{slice_get-get_or}
+use Rattle.std.proofs.lemmas.Option.{slice_get-get_or, slice_get_past}
 use Rattle.std.proofs.lemmas.Bool.{cases_eq}
 
 pub below_counted : (f : ℕ → Bool) (n i : ℕ) → i < length (map f (range_with_len 0 n)) → i < n
@@ -15,6 +15,9 @@ nth_counted f n i h =
     let long = length-map-range_with_len f 0 n in
     let in' : i < length fs = omega arith in
     sym (slice_get-get_or fs i false in' ∙ ap Some (get_or-map-range_with_len f 0 n i i false h (omega arith)))
+
+pub past_counted : (f : ℕ → Bool) (n i : ℕ) → n ≤ i → slice_get (map f (range_with_len 0 n)) i ≡ None
+past_counted f n i h = slice_get_past (map f (range_with_len 0 n)) i (simp length-map-range_with_len h)
 
 -- a test that differs at i alone
 pub set_counted : (f f' : ℕ → Bool) (n i : ℕ) (v : Bool) → i < n → f' i ≡ v → ((k : ℕ) → (k ≡ i → ⊥) → f' k ≡ f k) → map f' (range_with_len 0 n) ≡ set (map f (range_with_len 0 n)) i v

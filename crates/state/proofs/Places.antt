@@ -1,17 +1,12 @@
 -- What stands at a place of a list that is made of others, and what a change there leaves. Assumes nothing.
-use Rattle.std.proofs.Common.{◌≡◌, ℕ, zero, suc, ◌+◌, ◌-◌, ◌<◌, ◌≤◌, List, [], ◌∷◌, ◌++◌, map, length, take, set, Err, refl, ap, ◌∙◌, arith}
+use Rattle.std.proofs.Common.{◌≡◌, ℕ, Bool, true, false, not, map, set, zero, suc, ◌+◌, ◌-◌, ◌<◌, ◌≤◌, List, [], ◌∷◌, ◌++◌, length, take, None, Some, Err, refl, ap, ◌∙◌, arith}
+use Rattle.std.proofs.lemmas.List.{map-set}
 use Rattle.std.proofs.lemmas.Bool.Decides.{nat_tests}
 use Rattle.base.specs.declared.question.Question.TheVariants.{FactWithinState}
 use Rattle.state.specs.Facts.{answered}
 use Rattle.state.specs.WrappedFacts.{place_of}
-use Rattle.state.specs.declared.concatenated.Place.TheVariants.{First, Second, Beyond}
+use Rattle.state.specs.declared.concatenated.Place.TheVariants.{First, Second}
 use Rattle.std.specs.List.{slice_get}
-use Rattle.std.specs.Option.{option_map}
-
-pub nth_map : {X Y : Type 0} (f : X → Y) (xs : List X) (i : ℕ) → slice_get (map f xs) i ≡ option_map f (slice_get xs i)
-nth_map f [] i = refl
-nth_map f (x ∷ xs) zero = refl
-nth_map f (x ∷ xs) (suc i) = nth_map f xs i
 
 pub nth_take : {X : Type 0} (n : ℕ) (xs : List X) (i : ℕ) → i < n → slice_get (take n xs) i ≡ slice_get xs i
 nth_take zero xs i h = absurd (omega arith)
@@ -30,11 +25,12 @@ nth_right (x ∷ xs) ys k =
     let e : length (x ∷ xs) + k ≡ suc (length xs + k) = omega arith in
     ap (slice_get (x ∷ (xs ++ ys))) e ∙ nth_right xs ys k
 
-pub take_of_set : {X : Type 0} (m : ℕ) (xs : List X) (i : ℕ) (v : X) → take m (set xs i v) ≡ set (take m xs) i v
-take_of_set zero xs i v = refl
-take_of_set (suc m) [] i v = refl
-take_of_set (suc m) (x ∷ xs) zero v = refl
-take_of_set (suc m) (x ∷ xs) (suc i) v = ap (λ z. x ∷ z) (take_of_set m xs i v)
+not_not : (b : Bool) → not (not b) ≡ b
+not_not true = refl
+not_not false = refl
+
+pub negated_set : (xs : List Bool) (i : ℕ) (v : Bool) → map not (set xs i (not v)) ≡ set (map not xs) i v
+negated_set xs i v = map-set not xs i (not v) ∙ ap (set (map not xs) i) (not_not v)
 
 -- the answer depends on whether the fact is below the size alone
 pub answered_same : (m n i j : ℕ) → (i < m → j < n) → (j < n → i < m) → answered m i ≡ answered n j
@@ -44,11 +40,11 @@ pub refused_past : (n i : ℕ) → n ≤ i → Err FactWithinState ≡ answered 
 refused_past n i h = grind (arith, nat_tests)
 
 -- what each place says of the fact
-pub at_first : (split fact i : ℕ) → First i ≡ place_of split fact → (i ≡ fact) × (fact < split)
+pub at_first : (split fact i : ℕ) → place_of split fact ≡ Some (First i) → (i ≡ fact) × (fact < split)
 at_first split fact i e = grind (arith, nat_tests)
 
-pub at_second : (split fact j : ℕ) → Second j ≡ place_of split fact → (split ≤ fact) × (fact < 65535) × (j ≡ fact - split)
+pub at_second : (split fact j : ℕ) → place_of split fact ≡ Some (Second j) → (split ≤ fact) × (fact < 65535) × (j ≡ fact - split)
 at_second split fact j e = grind (arith, nat_tests)
 
-pub at_beyond : (split fact : ℕ) → Beyond ≡ place_of split fact → 65535 ≤ fact
-at_beyond split fact e = grind (arith, nat_tests)
+pub at_none : (split fact : ℕ) → place_of split fact ≡ None → 65535 ≤ fact
+at_none split fact e = grind (arith, nat_tests)

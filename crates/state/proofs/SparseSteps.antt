@@ -1,6 +1,6 @@
 -- What an insertion into an ascending list of numbers, and a removal, leave. Assumes nothing.
-use Rattle.std.proofs.Common.{◌≡◌, ℕ, zero, suc, ◌+◌, ◌-◌, ◌<◌, ◌≤◌, Bool, true, false, ◌||◌, eqb, List, [], ◌∷◌, ◌++◌, length, get_or, take, drop, set, is_ok, Ok, Err, Result, sym, refl, ap, ◌∙◌, subst, ⊎_elim, add-one, arith, drop-cons}
-use Rattle.std.specs.List.{insert, remove}
+use Rattle.std.proofs.Common.{◌≡◌, ℕ, zero, suc, ◌+◌, ◌-◌, ◌<◌, ◌≤◌, Bool, true, false, ◌||◌, eqb, List, [], ◌∷◌, ◌++◌, map, replicate, length, get_or, take, drop, set, is_ok, Ok, Err, Result, sym, refl, ap, ◌∙◌, subst, ⊎_elim, add-one, arith, drop-cons}
+use Rattle.std.specs.List.{insert, remove, range_with_len}
 use Rattle.std.specs.List.Sorted.{IsStrictlyIncreasing, IsBinarySearchResult}
 use Rattle.std.proofs.lemmas.List.Edits.{length-insert, get_or-insert_below, get_or-insert_at, get_or-insert_above, length-remove, get_or-remove_below, get_or-remove_above}
 use Rattle.std.proofs.lemmas.List.{take-append-drop}
@@ -167,3 +167,10 @@ pub spare : (ns : List ℕ) (n x i : ℕ) → IsStrictlyIncreasing ns → FitsAt
 spare ns n x i up at h below =
     let short = climbs_short (insert ns i x) n (climbs_inserted ns i x up at) (inserted_below ns i x n at.0 h below) in
     omega (arith, length-insert ns i x at.0)
+
+none_listed : (a n : ℕ) → map (listed []) (range_with_len a n) ≡ replicate n false
+none_listed a zero = refl
+none_listed a (suc n) = ap (λ l. false ∷ l) (none_listed (a + 1) n)
+
+pub none_hold : (n : ℕ) → list_facts n [] ≡ replicate n false
+none_hold n = none_listed 0 n

@@ -1,8 +1,8 @@
 -- What a state over other states means. Assumes nothing.
-use Rattle.std.specs.Prelude.{ℕ, ◌-◌, Bool, cond, not, List, ◌++◌, map, take, nat_lt}
+use Rattle.std.specs.Prelude.{ℕ, ◌-◌, Bool, cond, not, List, ◌++◌, map, take, None, Some, Option, nat_lt}
 use Rattle.state.specs.declared.concatenated.Concatenated.{Concatenated}
 use Rattle.state.specs.declared.concatenated.Place.{Place}
-use Rattle.state.specs.declared.concatenated.Place.TheVariants.{First, Second, Beyond}
+use Rattle.state.specs.declared.concatenated.Place.TheVariants.{First, Second}
 use Rattle.state.specs.declared.negated.Negated.{Negated}
 
 -- a fact holds where it does not hold below
@@ -14,5 +14,5 @@ abbrev pub concatenated_facts : {F S : Type 0} → (F → List Bool) → (S → 
 concatenated_facts firsts seconds s = take 65535 (firsts s.first ++ seconds s.second)
 
 -- where a fact stands, after a first state of so many facts
-abbrev pub place_of : ℕ → ℕ → Place
-place_of split fact = cond (nat_lt fact split) (First fact) (cond (nat_lt fact 65535) (Second (fact - split)) Beyond)
+abbrev pub place_of : ℕ → ℕ → Option Place
+place_of split fact = cond (nat_lt fact split) (Some (First fact)) (cond (nat_lt fact 65535) (Some (Second (fact - split))) None)

@@ -2,11 +2,12 @@
 ghost use Rattle.std.specs.Prelude.{◌≡◌, ◌<◌, false, length, replicate, Some, slice_set};
 ghost use Rattle.std.specs.List.{slice_get};
 ghost use Rattle.state.specs.BitFacts.{bit_facts};
-ghost use Rattle.std.proofs.Common.{rules, arith};
+ghost use Rattle.std.proofs.Common.{arith};
+ghost use Rattle.std.proofs.lemmas.List.FromFn.{length-map-range_with_len};
 
 use crate::State;
 use crate::definitions::BitState;
-use base::Question;
+use base::{Question, ask};
 
 impl BitState {
     // A state in which nothing holds.
@@ -43,23 +44,20 @@ impl BitState {
 impl State for BitState {
     ghost facts = { bit_facts };
 
-    ghost within = { first_of (Prim.search rules, Prim.grind (arith, Self.row.coded.inj)) };
+    ghost within = { λ s. simp length-map-range_with_len (omega arith) };
 
     fn size(&self) -> u16 {
         256
     }
 
+    #[tactic(auto, using(std::proofs::lemmas::Option::slice_get_past))]
     fn get(&self, fact: u16) -> Option<bool> {
-        if fact >= self.size() {
-            return None;
-        }
-        Some(self.bit(fact))
+        (fact < self.size()).then(|| self.bit(fact))
     }
 
+    #[tactic(auto, using(std::proofs::lemmas::List::set_past))]
     fn set(&mut self, fact: u16, value: bool) -> Result<(), Question> {
-        if fact >= self.size() {
-            return Err(Question::FactWithinState);
-        }
+        ask(fact < self.size(), Question::FactWithinState)?;
         self.set_bit(fact, value);
         Ok(())
     }

@@ -23,28 +23,27 @@ impl<F: State, S: State> Concatenated<F, S> {
     }
 }
 
-// Where a fact stands: in the first state or the second, with its number there, or in neither.
+// Where a fact stands: in the first state or the second, with its number there.
 #[derive(Clone, Copy)]
 enum Place {
     First(u16),
     Second(u16),
-    Beyond,
 }
 
-// The place of a fact, where the first state has `split` facts.
-fn place_of(split: u16, fact: u16) -> Place
+// The place of a fact, where the first state has `split` facts; none where it stands in neither.
+fn place_of(split: u16, fact: u16) -> Option<Place>
     ensures { result ≡ place_of split fact }
 {
     if fact < split {
-        Place::First(fact)
+        Some(Place::First(fact))
     } else if fact < u16::MAX {
-        Place::Second(fact - split)
+        Some(Place::Second(fact - split))
     } else {
-        Place::Beyond
+        None
     }
 }
 
-// A size is a u16, so the facts past 65,535 are cut off.
+// A size is a u16, so the facts past 65,535 are cut off. Within `size` its goal stayed open.
 fn total_size(first: u16, second: u16) -> u16
     ensures { result ≡ min (first + second) 65535 }
 {
@@ -61,18 +60,17 @@ impl<F: State, S: State> State for Concatenated<F, S> {
     }
 
     fn get(&self, fact: u16) -> Option<bool> {
-        match place_of(self.first.size(), fact) {
+        match place_of(self.first.size(), fact)? {
             Place::First(fact) => self.first.get(fact),
             Place::Second(fact) => self.second.get(fact),
-            Place::Beyond => None,
         }
     }
 
     fn set(&mut self, fact: u16, value: bool) -> Result<(), Question> {
-        match place_of(self.first.size(), fact) {
+        let place = place_of(self.first.size(), fact).ok_or(Question::FactWithinState)?;
+        match place {
             Place::First(fact) => self.first.set(fact, value),
             Place::Second(fact) => self.second.set(fact, value),
-            Place::Beyond => Err(Question::FactWithinState),
         }
     }
 }

@@ -24,24 +24,6 @@ impl<S: State> Negated<S> {
     }
 }
 
-// The negation of what the state answers.
-fn get_negated<S: State>(state: &S, fact: u16) -> Option<bool>
-    ensures { result ≡ slice_get (map not (S.State.facts state.now)) fact }
-{
-    match state.get(fact) {
-        Some(holds) => Some(!holds),
-        None => None,
-    }
-}
-
-// Sets the fact so that its negation has the value.
-fn set_negated<S: State>(state: &mut S, fact: u16, value: bool) -> Result<(), Question>
-    ensures after { map not (S.State.facts state.new) ≡ slice_set (map not (S.State.facts state.old)) fact value }
-    ensures value { result ≡ answered (length (map not (S.State.facts state.old))) fact }
-{
-    state.set(fact, !value)
-}
-
 impl<S: State> State for Negated<S> {
     ghost facts = { negated_facts S.State.facts };
 
@@ -52,10 +34,11 @@ impl<S: State> State for Negated<S> {
     }
 
     fn get(&self, fact: u16) -> Option<bool> {
-        get_negated(&self.below, fact)
+        self.below.get(fact).map(|holds| !holds)
     }
 
+    #[tactic(auto, using(crate::proofs::Places::negated_set))]
     fn set(&mut self, fact: u16, value: bool) -> Result<(), Question> {
-        set_negated(&mut self.below, fact, value)
+        self.below.set(fact, !value)
     }
 }

@@ -7,38 +7,25 @@ ghost use Rattle.std.proofs.lemmas.List.FromFn.{length-map-range_with_len};
 
 use crate::State;
 use crate::definitions::SparseState;
-use base::Question;
+use base::{Question, ask};
 use std::alloc::{AllocError, Global};
-
-// A state in which nothing holds.
-fn empty(size: u16, held: Vec<u16>) -> SparseState
-    requires small { size ≤ 256 }
-    requires room { 256 ≤ vec_capacity held }
-    requires none { held.items ≡ [] }
-    ensures { sparse_facts result ≡ replicate size false }
-{
-    SparseState { size, held }
-}
 
 impl SparseState {
     // A state in which nothing holds. A size above 256 counts as 256.
+    #[tactic(auto, using(crate::proofs::SparseSteps::none_hold))]
     pub fn new(heap: Global, size: u16) -> Result<SparseState, AllocError>
         ensures { IfOk result (λ s. sparse_facts s ≡ replicate (min size 256) false) }
     {
         let held = Vec::with_capacity(heap, 256)?;
-        Ok(empty(size.min(256), held))
-    }
-
-    // How many facts there are, whether they hold or not.
-    fn count(&self) -> u16
-        ensures { result ≡ length (sparse_facts self.now) }
-    {
-        self.size
+        Ok(SparseState {
+            size: size.min(256),
+            held,
+        })
     }
 
     // Whether the fact holds.
     fn holds(&self, fact: u16) -> bool
-        requires { fact < length (sparse_facts self.now) }
+        requires { fact < self.now.size }
         ensures { Some result ≡ slice_get (sparse_facts self.now) fact }
     {
         self.held.binary_search(&fact).is_ok()
@@ -46,7 +33,7 @@ impl SparseState {
 
     // Makes the fact hold. A fact that is missing has room, since no number stands twice.
     fn insert(&mut self, fact: u16)
-        requires { fact < length (sparse_facts self.old) }
+        requires { fact < self.old.size }
         ensures { sparse_facts self.new ≡ slice_set (sparse_facts self.old) fact true }
     {
         if let Err(place) = self.held.binary_search(&fact) {
@@ -56,7 +43,7 @@ impl SparseState {
 
     // Makes the fact not hold.
     fn remove(&mut self, fact: u16)
-        requires { fact < length (sparse_facts self.old) }
+        requires { fact < self.old.size }
         ensures { sparse_facts self.new ≡ slice_set (sparse_facts self.old) fact false }
     {
         if let Ok(place) = self.held.binary_search(&fact) {
@@ -71,20 +58,16 @@ impl State for SparseState {
     ghost within = { λ s. simp length-map-range_with_len (omega arith) };
 
     fn size(&self) -> u16 {
-        self.count()
+        self.size
     }
 
+    #[tactic(auto, using(crate::proofs::Counts::past_counted))]
     fn get(&self, fact: u16) -> Option<bool> {
-        if fact >= self.size() {
-            return None;
-        }
-        Some(self.holds(fact))
+        (fact < self.size).then(|| self.holds(fact))
     }
 
     fn set(&mut self, fact: u16, value: bool) -> Result<(), Question> {
-        if fact >= self.size() {
-            return Err(Question::FactWithinState);
-        }
+        ask(fact < self.size, Question::FactWithinState)?;
         if value {
             self.insert(fact);
         } else {

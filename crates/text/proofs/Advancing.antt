@@ -1,12 +1,15 @@
 -- Reading a line goes on through the bytes of its text. Assumes nothing.
-use Rattle.std.proofs.Common.{◌≡◌, ℕ, ◌+◌, ◌-◌, ◌*◌, Bool, true, false, ◌&&◌, eqb, List, [], ◌∷◌, ◌++◌, length, Some, None, Option, sym, refl, ap, ◌∙◌, subst, append_assoc, arith, length-append}
+use Rattle.std.proofs.Common.{◌≡◌, ℕ, ◌+◌, ◌-◌, ◌*◌, Bool, true, false, ◌&&◌, eqb, List, [], ◌∷◌, ◌++◌, length, Some, None, Option, Ok, Err, Result, replicate, sym, refl, ap, ◌∙◌, subst, append_assoc, arith, length-append}
 use Rattle.std.proofs.lemmas.Bool.{cond_both, and_parts, eqb-true}
+use Rattle.std.proofs.lemmas.List.{length-replicate}
 use Rattle.base.specs.declared.question.Question.TheVariants.{ValueFormed}
+use Rattle.text.specs.declared.cursor.Reader.{Reader}
 use Rattle.text.specs.declared.place.Numbered.{Numbered}
 use Rattle.text.specs.declared.place.TextFault.{TextFault}
 use Rattle.text.specs.Values.{digit, follows, Before, due, figures, Scan, line, fault, push, scan, value}
 use Rattle.text.specs.Lines.{Got, got, bad, ends, after, scanned, keyed, a_line}
-use Rattle.text.specs.Viability.{FirstFault}
+use Rattle.text.specs.Cursors.{left, KeyedRead}
+use Rattle.text.specs.Viability.{FirstFault, StopsAt}
 use Rattle.text.proofs.Keyed.{key_stood}
 use Rattle.text.proofs.Viable.{stops_value}
 
@@ -69,3 +72,11 @@ module _ (text : List ℕ) (many : Bool) (key : List ℕ) (plain : ends key ≡ 
 
   pub line_on : Goes (a_line many key l at bs)
   line_on = cond_both (ends bs) _ _ Goes (λ e. keyed_on e (after key bs) refl) (λ _ q. let z : ◌≡◌ {A = ℕ} 0 1 = cc in absurd (omega arith))
+
+-- a reader that refuses a value names the byte at fault, whatever stood before the line
+pub stops_read : (many : Bool) (key : List ℕ) (s : Reader) (r : Result (Unit {0}) TextFault) (t : Reader) → KeyedRead many key s r t → StopsAt many key s.byte (left s) r
+stops_read many key s (Ok u) t h = tt
+stops_read many key s (Err f) t h = λ plain.
+    let front : List ℕ = replicate s.byte 0 in
+    let at : From (front ++ left s) s.byte (left s) = record { front = front; text_is = refl; place = sym (length-replicate s.byte 0) } in
+    subst (Advanced (front ++ left s) many key s.byte (left s)) h.0 (line_on (front ++ left s) many key plain s.line s.byte (left s) at)

@@ -1,15 +1,13 @@
 -- Bytes that a sink takes. Assumes nothing.
-use Rattle.std.proofs.Common.{◌≡◌, ℕ, suc, ◌+◌, ◌-◌, ◌/◌, ◌%◌, ◌^◌, ◌<◌, ◌≤◌, Bool, true, false, ◌||◌, eqb, ltb, List, [], ◌∷◌, ◌++◌, length, get_or, take, drop, set, decimal, sym, refl, ap, ◌∙◌, subst, append_assoc, append-nil, add-zero, arith}
-use native.Mathlib.Nat.{sub-zero}
-use Rattle.std.proofs.lemmas.Fmt.{decimal_digit, decimal_step}
-use Rattle.std.proofs.lemmas.List.{take_more, length-take-le, take-append-drop, take_more_set, drop-set-lt}
+use Rattle.std.proofs.Common.{◌≡◌, ℕ, suc, ◌+◌, ◌<◌, ◌≤◌, Some, None, Option, List, [], ◌∷◌, ◌++◌, length, get_or, take, drop, set, decimal, sym, refl, ap, ◌∙◌, subst, append_assoc, append-nil, add-zero, arith}
+use Rattle.std.proofs.lemmas.List.{take_more, take_all, take-append-drop, take_more_set, drop-set-lt}
 use Rattle.std.proofs.lemmas.Bool.Decides.{nat_tests}
 use Rattle.text.specs.declared.slices.Lent.{Lent}
 use Rattle.text.specs.declared.slices.Room.{Room}
-use Rattle.text.specs.Lists.{commas, list, line_of, each}
+use Rattle.text.specs.Lists.{commas, list, each}
 use Rattle.text.specs.Fed.{Fed}
-use Rattle.text.specs.Sinks.{Feeds, Counts, Lays}
-use Rattle.text.proofs.FedLaws.{fed_append}
+use Rattle.text.specs.Sinks.{Feeds, less, Counts, Lays}
+use Rattle.text.proofs.FedLaws.{fed_start, fed_append, fed_push, fed_is}
 
 commas_append : (xs ys : List ℕ) → commas (xs ++ ys) ≡ commas xs ++ commas ys
 commas_append [] ys = refl
@@ -17,35 +15,9 @@ commas_append (x ∷ xs) ys =
     ap (λ (l : List ℕ). 44 ∷ (decimal x ++ l)) (commas_append xs ys)
     ∙ ap (λ (l : List ℕ). 44 ∷ l) (sym (append_assoc (decimal x) (commas xs) (commas ys)))
 
-list_push : (xs : List ℕ) (n : ℕ) → 0 < length xs → list (xs ++ (n ∷ [])) ≡ (list xs ++ (44 ∷ [])) ++ decimal n
-list_push [] n h = absurd (omega arith)
-list_push (x ∷ xs) n h =
-    ap (λ (l : List ℕ). decimal x ++ l)
-    (commas_append xs (n ∷ []) ∙ ap (λ (l : List ℕ). commas xs ++ (44 ∷ l)) (append-nil (decimal n)))
-    ∙ sym (append_assoc (decimal x) (commas xs) (44 ∷ decimal n))
-    ∙ sym (append_assoc (decimal x ++ commas xs) (44 ∷ []) (decimal n))
-
--- each number but the first adds a comma and itself
-abbrev pub Grows : List ℕ → Type 0
-Grows ns = (i : ℕ) → i < length ns → 0 < i → list (take (i + 1) ns) ≡ (list (take i ns) ++ (44 ∷ [])) ++ decimal (get_or ns i 0)
-
-pub list_grows : (ns : List ℕ) → Grows ns
-list_grows ns i h some =
-    let l : length (take i ns) ≡ i = length-take-le i ns (omega arith) in
-    ap list (take_more ns i 0 h) ∙ list_push (take i ns) (get_or ns i 0) (omega (arith, l))
-
 each_append : {X : Type 0} (w : X → List ℕ) (xs ys : List X) → each w (xs ++ ys) ≡ each w xs ++ each w ys
 each_append w [] ys = refl
 each_append w (x ∷ xs) ys = ap (λ (l : List ℕ). w x ++ l) (each_append w xs ys) ∙ sym (append_assoc (w x) (each w xs) (each w ys))
-
--- each value adds its text
-abbrev pub Adds : {X : Type 0} → (X → List ℕ) → List X → Type 0
-Adds {X = X} w xs = (i : ℕ) (x : X) → i < length xs → x ≡ get_or xs i x → each w (take (i + 1) xs) ≡ each w (take i xs) ++ w x
-
-pub each_adds : {X : Type 0} (w : X → List ℕ) (xs : List X) → Adds w xs
-each_adds {X = X} w xs i x h is =
-    ap (each w) (take_more xs i x h ∙ ap (λ (y : X). take i xs ++ (y ∷ [])) (sym is)) ∙ each_append w (take i xs) (x ∷ [])
-    ∙ ap (λ (l : List ℕ). each w (take i xs) ++ l) (append-nil (w x))
 
 module _ {S : Type 0} (takes : S → ℕ → S → Type 0) where
   -- what is fed is fed before and after other bytes too
@@ -54,46 +26,53 @@ module _ {S : Type 0} (takes : S → ℕ → S → Type 0) where
       let q : Fed takes s ys t = subst (λ (l : List ℕ). Fed takes s l t) e p in
       record { alone = q; after = λ r before h. fed_append takes r before s ys t h q; before = λ after u h. fed_append takes s ys t after u q h }
 
-  pub feeds_one : (s t : S) (b : ℕ) → takes s b t → Feeds takes s (b ∷ []) t
-  unfolding Fed
-  feeds_one s t b p = feeds s t (b ∷ []) (b ∷ []) refl (t, p, refl)
+-- each byte that is taken is fed after those before it
+pub byte_turn : {S : Type 0} (takes : S → ℕ → S → Type 0) (s : S) (bs : List ℕ) (i : ℕ) (t u : S) → i < length bs → Fed takes s (take i bs) t → takes t (get_or bs i 0) u → Fed takes s (take (i + 1) bs) u
+byte_turn takes s bs i t u h p q = fed_is takes s (take i bs ++ (get_or bs i 0 ∷ [])) (take (i + 1) bs) u (sym (take_more bs i 0 h)) (fed_push takes s (take i bs) t (get_or bs i 0) u p q)
 
-  -- a number of several digits, once all but the last are written
-  pub feeds_decimal : (s t m u : S) (n d : ℕ) → 10 ≤ n → n < 2 ^ 64 → d ≡ 48 + n % 10 → Feeds takes s (decimal (n / 10)) t → m ≡ t → Feeds takes m (d ∷ []) u → Feeds takes s (decimal n) u
-  feeds_decimal s t m u n d big small d-is p e q =
-      feeds s u (decimal (n / 10) ++ (d ∷ [])) (decimal n)
-      (ap (λ (k : ℕ). decimal (n / 10) ++ (k ∷ [])) d-is ∙ sym (decimal_step n big small))
-      (q.after s (decimal (n / 10)) (subst (Fed takes s (decimal (n / 10))) (sym e) p.alone))
+-- each number but the first adds a comma and itself
+pub comma_turn : {S : Type 0} (takes : S → ℕ → S → Type 0) (s : S) (ns : List ℕ) (i n : ℕ) (t m u : S) → i < length ns → n ≡ get_or ns i 0 → Fed takes s (commas (take i ns)) t → Feeds takes t (44 ∷ []) m → Feeds takes m (decimal n) u → Fed takes s (commas (take (i + 1) ns)) u
+comma_turn takes s ns i n t m u h is p q r =
+    let grows : commas (take (i + 1) ns) ≡ (commas (take i ns) ++ (44 ∷ [])) ++ decimal n =
+    ap commas (take_more ns i 0 h ∙ ap (λ (k : ℕ). take i ns ++ (k ∷ [])) (sym is)) ∙ commas_append (take i ns) (n ∷ [])
+    ∙ ap (λ (l : List ℕ). commas (take i ns) ++ (44 ∷ l)) (append-nil (decimal n))
+    ∙ sym (append_assoc (commas (take i ns)) (44 ∷ []) (decimal n)) in
+    fed_is takes s ((commas (take i ns) ++ (44 ∷ [])) ++ decimal n) (commas (take (i + 1) ns)) u (sym grows) (r.after s (commas (take i ns) ++ (44 ∷ [])) (q.after s (commas (take i ns)) p))
 
-  pub feeds_digit : (s m u : S) (n d : ℕ) → n < 10 → d ≡ 48 + n % 10 → m ≡ s → Feeds takes m (d ∷ []) u → Feeds takes s (decimal n) u
-  feeds_digit s m u n d small d-is e q =
-      let d-is-n : d ≡ 48 + n = omega arith in
-      feeds s u (d ∷ []) (decimal n) (ap (λ (k : ℕ). k ∷ []) d-is-n ∙ sym (decimal_digit n small))
-      (subst (λ (x : S). Fed takes x (d ∷ []) u) e q.alone)
+-- a list is its first number and what its others add
+pub list_fed : {S : Type 0} (takes : S → ℕ → S → Type 0) (s m t : S) (ns others : List ℕ) (n : ℕ) → ns ≡ n ∷ others → Feeds takes s (decimal n) m → Fed takes m (commas others) t → Feeds takes s (list ns) t
+list_fed takes s m t ns others n is p q = feeds takes s t (decimal n ++ commas others) (list ns) (ap list (sym is)) (p.before (commas others) t q)
 
-  pub feeds_line : (s t u : S) (key ns : List ℕ) → Fed takes s (key ++ (61 ∷ list ns)) t → Feeds takes t (10 ∷ []) u → Feeds takes s (line_of key ns) u
-  feeds_line s t u key ns p q =
-      feeds s u ((key ++ (61 ∷ list ns)) ++ (10 ∷ [])) (line_of key ns) (append_assoc key (61 ∷ list ns) (10 ∷ [])) (q.after s (key ++ (61 ∷ list ns)) p)
+-- each text is fed after those before it
+pub text_turn : {S X : Type 0} (takes : S → ℕ → S → Type 0) (w : X → List ℕ) (s : S) (xs : List X) (i : ℕ) (x : X) (t u : S) → i < length xs → x ≡ get_or xs i x → Fed takes s (each w (take i xs)) t → Fed takes t (w x) u → Fed takes s (each w (take (i + 1) xs)) u
+text_turn {X = X} takes w s xs i x t u h is p q =
+    let grows : each w (take (i + 1) xs) ≡ each w (take i xs) ++ w x =
+    ap (each w) (take_more xs i x h ∙ ap (λ (y : X). take i xs ++ (y ∷ [])) (sym is)) ∙ each_append w (take i xs) (x ∷ [])
+    ∙ ap (λ (l : List ℕ). each w (take i xs) ++ l) (append-nil (w x)) in
+    fed_is takes s (each w (take i xs) ++ w x) (each w (take (i + 1) xs)) u (sym grows) (fed_append takes s (each w (take i xs)) t (w x) u p q)
 
-room_step : (l k : ℕ) (o : Bool) → ((o || eqb l 0) || ltb (l - 1) k) ≡ (o || ltb l (suc k))
-room_step l k true = refl
-room_step l k false = grind (arith, nat_tests)
+-- what the loops over bytes, numbers and values stand on
+pub ruleset bytes_fed = (fed_start, byte_turn, take_all, feeds)
 
--- what counting leaves: the room that is left over, and whether there was too little
-pub room_fed : (s : Room) (bs : List ℕ) (t : Room) → Fed Counts s bs t → (t.left ≡ s.left - length bs) × (t.over ≡ (s.over || ltb s.left (length bs)))
+pub ruleset numbers_fed = (fed_start, comma_turn, take_all, list_fed, feeds)
+
+pub ruleset texts_fed = (fed_start, text_turn, take_all, feeds)
+
+less_step : (o : Option ℕ) (k : ℕ) → less (less o 1) k ≡ less o (suc k)
+less_step None k = refl
+less_step (Some n) k = grind (arith, nat_tests)
+
+-- what counting leaves
+pub room_fed : (s : Room) (bs : List ℕ) (t : Room) → Fed Counts s bs t → t.left ≡ less s.left (length bs)
 unfolding Fed
-room_fed s [] t p =
-    (ap (λ (x : Room). x.left) (sym p) ∙ sym (sub-zero s.left), ap (λ (x : Room). x.over) (sym p) ∙ sym (never s.over s.left))
+room_fed s [] t p = ap (λ (x : Room). x.left) (sym p) ∙ sym (none_taken s.left)
   where
-    never : (o : Bool) (l : ℕ) → (o || ltb l 0) ≡ o
-    never true l = refl
-    never false l = grind (arith, nat_tests)
+    none_taken : (o : Option ℕ) → less o 0 ≡ o
+    none_taken None = refl
+    none_taken (Some n) = grind (arith, nat_tests)
 room_fed s (b ∷ bs) t p =
     let ih = room_fed p.0 bs t p.2 in
-    let l-is : p.0.left ≡ s.left - 1 = p.1.0 in (
-      let e : t.left ≡ p.0.left - length bs = ih.0 in omega arith,
-      ih.1 ∙ (λ i. p.1.1 i || ltb (l-is i) (length bs)) ∙ room_step s.left (length bs) s.over,
-    )
+    ih ∙ ap (λ (o : Option ℕ). less o (length bs)) p.1 ∙ less_step s.left (length bs)
 
 -- bytes written over others from the place `at` on
 abbrev laid : List ℕ → ℕ → List ℕ → List ℕ

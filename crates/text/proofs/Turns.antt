@@ -1,25 +1,26 @@
 -- A turn of the loop that reads a value. Assumes nothing.
-use Rattle.std.proofs.Common.{◌≡◌, ℕ, ◌+◌, ◌<◌, ◌≤◌, Bool, true, false, cond, ◌&&◌, eqb, List, [], ◌∷◌, ◌++◌, length, get_or, drop, sym, refl, ap, ◌∙◌, append-nil}
+use Rattle.std.proofs.Common.{◌≡◌, ℕ, ◌+◌, ◌<◌, Bool, true, false, cond, ◌&&◌, eqb, List, [], ◌∷◌, ◌++◌, length, Option, None, Some, Err, get_or, drop, sym, refl, ap, ◌∙◌, append-nil, arith}
 use Rattle.std.proofs.lemmas.List.{drop_more, drop_all}
+use Rattle.std.specs.Option.{ok_or}
 use Rattle.text.specs.declared.place.Numbered.{Numbered}
 use Rattle.text.specs.declared.values.Before.{Before}
 use Rattle.text.specs.declared.values.Before.TheVariants.{Due, Figures}
 use Rattle.text.specs.declared.values.Step.{Step}
-use Rattle.text.specs.declared.values.Step.TheVariants.{On, Put, Last, Empty, Stop}
+use Rattle.text.specs.declared.values.Step.TheVariants.{On, Put, Last, Empty}
 use Rattle.text.specs.Values as values
-use Rattle.text.specs.Values.{digit, follows, due, figures, Scan, line, fault, push, scan}
+use Rattle.text.specs.Values.{digit, follows, due, figures, Scan, line, fault, push, scan, numbers_of}
 use Rattle.text.specs.Steps.{stepped}
 
 abbrev pub state : Before → values.Before
 state (Due may) = due may
 state (Figures n) = figures n.value n.byte
 
-abbrev pub turned : Bool → ℕ → List ℕ → Step → Scan
-turned many at cs (On b) = scan many (state b) (at + 1) cs
-turned many at cs (Put n) = push n (scan many (due false) (at + 1) cs)
-turned many at cs (Last n) = line (n ∷ []) at cs
-turned many at cs Empty = line [] at cs
-turned many at cs Stop = fault [] at
+abbrev pub turned : Bool → ℕ → List ℕ → Option Step → Scan
+turned many at cs (Some (On b)) = scan many (state b) (at + 1) cs
+turned many at cs (Some (Put n)) = push n (scan many (due false) (at + 1) cs)
+turned many at cs (Some (Last n)) = line (n ∷ []) at cs
+turned many at cs (Some Empty) = line [] at cs
+turned many at cs None = fault [] at
 
 inside : {X Y : Type 0} (f : X → Y) (b : Bool) (x y : X) → f (cond b x y) ≡ cond b (f x) (f y)
 inside f true x y = refl
@@ -52,31 +53,59 @@ pushes_fault (x ∷ xs) ys p = ap (push x) (pushes_fault xs ys p)
 stopped : (xs : List Numbered) (p : ℕ) → pushes xs (fault [] p) ≡ fault xs p
 stopped xs p = pushes_fault xs [] p ∙ ap (λ (l : List Numbered). fault l p) (append-nil xs)
 
--- the text from `at` on, by what its first byte does
-pub turn : (many : Bool) (b : Before) (text : List ℕ) (at : ℕ) (s : Step) → at < length text → s ≡ stepped many b at (get_or text at 0)
-    → scan many (state b) at (drop at text) ≡ turned many at (drop (at + 1) text) s
-turn many b text at s h e =
-    ap (scan many (state b) at) (drop_more text at 0 h) ∙ scan_step many b at (get_or text at 0) (drop (at + 1) text) ∙ ap (turned many at (drop (at + 1) text)) (sym e)
+-- the step u that was met in r, and the byte that r refuses
+pub took : (r t : Option Step) {s u : Step} → r ≡ Some s → r ≡ t → s ≡ u → Some u ≡ t
+took r t got is e = ap Some (sym e) ∙ sym got ∙ is
 
--- what is left to show of the loop, at each step
-module _ (many : Bool) (b : Before) (text : List ℕ) (at : ℕ) (v : Scan) (xs : List Numbered) (h : at < length text) (inv : v ≡ pushes xs (scan many (state b) at (drop at text))) where
-  pub on_last : (n : Numbered) (ys : List Numbered) → Last n ≡ stepped many b at (get_or text at 0) → ys ≡ xs ++ (n ∷ []) → v ≡ line ys at (drop (at + 1) text)
-  on_last n ys e is = inv ∙ ap (pushes xs) (turn many b text at (Last n) h e) ∙ pushes_line xs (n ∷ []) at (drop (at + 1) text) ∙ ap (λ (l : List Numbered). line l at (drop (at + 1) text)) (sym is)
+pub refused : (r : Option Step) (e at : ℕ) → r ≡ None → Err e ≡ ok_or r at → e ≡ at
+refused r e at got is = grind arith
 
-  pub on_empty : Empty ≡ stepped many b at (get_or text at 0) → v ≡ line xs at (drop (at + 1) text)
-  on_empty e = inv ∙ ap (pushes xs) (turn many b text at Empty h e) ∙ pushes_line xs [] at (drop (at + 1) text) ∙ ap (λ (l : List Numbered). line l at (drop (at + 1) text)) (append-nil xs)
+-- a value whose first byte is at `from`, once i of its bytes are read: by what the next does
+module _ (many : Bool) (b : Before) (bs : List ℕ) (from i : ℕ) where
+  turn : (s : Option Step) → i < length bs → s ≡ stepped many b (from + i) (get_or bs i 0)
+      → scan many (state b) (from + i) (drop i bs) ≡ turned many (from + i) (drop (i + 1) bs) s
+  turn s h e =
+      ap (scan many (state b) (from + i)) (drop_more bs i 0 h) ∙ scan_step many b (from + i) (get_or bs i 0) (drop (i + 1) bs)
+      ∙ ap (turned many (from + i) (drop (i + 1) bs)) (sym e)
 
-  pub on_stop : Stop ≡ stepped many b at (get_or text at 0) → v ≡ fault xs at
-  on_stop e = inv ∙ ap (pushes xs) (turn many b text at Stop h e) ∙ stopped xs at
+  -- v is what all is read as, and xs are the numbers that were handed on
+  module _ (v : Scan) (xs : List Numbered) (h : i < length bs) (inv : v ≡ pushes xs (scan many (state b) (from + i) (drop i bs))) where
+    pub on_last : (n : Numbered) → Some (Last n) ≡ stepped many b (from + i) (get_or bs i 0) → v ≡ line (xs ++ (n ∷ [])) (from + i) (drop (i + 1) bs)
+    on_last n e = inv ∙ ap (pushes xs) (turn (Some (Last n)) h e) ∙ pushes_line xs (n ∷ []) (from + i) (drop (i + 1) bs)
 
-  pub on_more : (next b' : Before) (ys : List Numbered) → On next ≡ stepped many b at (get_or text at 0) → b' ≡ next → ys ≡ xs → v ≡ pushes ys (scan many (state b') (at + 1) (drop (at + 1) text))
-  on_more next b' ys e eb es = inv ∙ ap (pushes xs) (turn many b text at (On next) h e) ∙ (λ i. pushes (sym es i) (scan many (state (sym eb i)) (at + 1) (drop (at + 1) text)))
+    pub on_empty : Some Empty ≡ stepped many b (from + i) (get_or bs i 0) → v ≡ line xs (from + i) (drop (i + 1) bs)
+    on_empty e =
+        inv ∙ ap (pushes xs) (turn (Some Empty) h e) ∙ pushes_line xs [] (from + i) (drop (i + 1) bs)
+        ∙ ap (λ (l : List Numbered). line l (from + i) (drop (i + 1) bs)) (append-nil xs)
 
-  pub on_put : (n : Numbered) (b' : Before) (ys : List Numbered) → Put n ≡ stepped many b at (get_or text at 0) → b' ≡ Due false → ys ≡ xs ++ (n ∷ []) → v ≡ pushes ys (scan many (state b') (at + 1) (drop (at + 1) text))
-  on_put n b' ys e eb es =
-      inv ∙ ap (pushes xs) (turn many b text at (Put n) h e) ∙ sym (pushes_put xs n (scan many (due false) (at + 1) (drop (at + 1) text)))
-      ∙ (λ i. pushes (sym es i) (scan many (state (sym eb i)) (at + 1) (drop (at + 1) text)))
+    pub on_stop : (r : Option Step) → r ≡ None → r ≡ stepped many b (from + i) (get_or bs i 0) → v ≡ fault xs (from + i)
+    on_stop r none e = inv ∙ ap (pushes xs) (turn None h (sym none ∙ e)) ∙ stopped xs (from + i)
 
-pub at_end_lem : (many : Bool) (b : Before) (text : List ℕ) (at : ℕ) (v : Scan) (xs : List Numbered) → length text ≤ at → v ≡ pushes xs (scan many (state b) at (drop at text)) → v ≡ fault xs at
-at_end_lem many (Due may) text at v xs h inv = inv ∙ ap (λ (l : List ℕ). pushes xs (scan many (due may) at l)) (drop_all at text h) ∙ stopped xs at
-at_end_lem many (Figures n) text at v xs h inv = inv ∙ ap (λ (l : List ℕ). pushes xs (scan many (figures n.value n.byte) at l)) (drop_all at text h) ∙ stopped xs at
+    pub on_more : (next b' : Before) → Some (On next) ≡ stepped many b (from + i) (get_or bs i 0) → b' ≡ next
+        → v ≡ pushes xs (scan many (state b') (from + (i + 1)) (drop (i + 1) bs))
+    on_more next b' e eb =
+        let n : from + i + 1 ≡ from + (i + 1) = omega arith in
+        inv ∙ ap (pushes xs) (turn (Some (On next)) h e) ∙ (λ j. pushes xs (scan many (state (sym eb j)) (n j) (drop (i + 1) bs)))
+
+    pub on_put : (x : Numbered) (b' : Before) → Some (Put x) ≡ stepped many b (from + i) (get_or bs i 0) → b' ≡ Due false
+        → v ≡ pushes (xs ++ (x ∷ [])) (scan many (state b') (from + (i + 1)) (drop (i + 1) bs))
+    on_put x b' e eb =
+        let n : from + i + 1 ≡ from + (i + 1) = omega arith in
+        inv ∙ ap (pushes xs) (turn (Some (Put x)) h e) ∙ sym (pushes_put xs x (scan many (due false) (from + i + 1) (drop (i + 1) bs)))
+        ∙ (λ j. pushes (xs ++ (x ∷ [])) (scan many (state (sym eb j)) (n j) (drop (i + 1) bs)))
+
+pub at_end_lem : (many : Bool) (b : Before) (bs : List ℕ) (from i : ℕ) (v : Scan) (xs : List Numbered) → i ≡ length bs → v ≡ pushes xs (scan many (state b) (from + i) (drop i bs)) → v ≡ fault xs (from + length bs)
+at_end_lem many b bs from i v xs is inv =
+    inv ∙ (λ j. pushes xs (scan many (state b) (from + is j) (drop (is j) bs))) ∙ ap (λ (l : List ℕ). pushes xs (scan many (state b) (from + length bs) l)) (drop_all (length bs) bs (omega arith))
+    ∙ ap (pushes xs) (nothing b (from + length bs)) ∙ stopped xs (from + length bs)
+  where
+    nothing : (b : Before) (at : ℕ) → scan many (state b) at [] ≡ fault [] at
+    nothing (Due may) at = refl
+    nothing (Figures n) at = refl
+
+-- the same, with the numbers as what all is read as
+pub line_as : (v : Scan) (xs : List Numbered) (end : ℕ) (rest r : List ℕ) → v ≡ line xs end rest → r ≡ rest → v ≡ line (numbers_of v) end r
+line_as v xs end rest r e is = e ∙ (λ j. line (numbers_of (sym e j)) end (sym is j))
+
+pub fault_as : (v : Scan) (xs : List Numbered) (at : ℕ) → v ≡ fault xs at → v ≡ fault (numbers_of v) at
+fault_as v xs at e = e ∙ (λ j. fault (numbers_of (sym e j)) at)

@@ -1,12 +1,12 @@
 // Where a reader stands in a text.
-ghost use Rattle.std.specs.Prelude.{◌+◌, ◌≤◌, length};
+ghost use Rattle.std.specs.Prelude.{◌+◌, ◌^◌, ◌<◌, ◌≤◌, length};
 
-// What is left of a text from the byte `byte` on, where the line `line` begins.
+// What is left of a text after its first bytes, and the line that is due there.
 #[derive(Drop)]
 pub struct Reader<'a> {
-    pub(crate) text: &'a [u8],
+    pub(crate) rest: &'a [u8],
     pub(crate) line: usize,
     pub(crate) byte: usize,
-    ghost inside: { byte ≤ length text.now },
+    ghost fits: { byte + length rest.now < 2 ^ 64 },
     ghost counted: { line ≤ byte + 1 },
 }

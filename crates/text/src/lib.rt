@@ -16,4 +16,6 @@ pub use numbers::Numbers;
 pub use place::{Numbered, Place, TextFault};
 pub use render::Render;
 pub use sink::Sink;
-pub use writing::{list_line, number_line, put_all, put_bytes, put_list, put_number, write};
+pub use writing::{
+    list_line, number_line, put_all, put_bytes, put_list, put_number, write, written,
+};

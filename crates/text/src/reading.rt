@@ -1,86 +1,41 @@
 // Reads a text line by line.
-ghost use Rattle.std.specs.Prelude.{◌≡◌, ◌+◌, ◌<◌, ◌≤◌, true, false, length, drop, is_some, IfOk, if◌then◌else◌, Some, None};
-ghost use Rattle.text.specs.Lines.{ends as ends_in, after, numbers_in, place_of};
-ghost use Rattle.text.specs.Cursors.{left, at_end, LoneRead, Opens, LineRead, NumberRead};
+ghost use Rattle.std.specs.Prelude.{◌≡◌, true, false, is_some, Some};
+ghost use Rattle.std.specs.Option.{option_copied};
+ghost use Rattle.text.specs.Lines.{ends as ends_in, after, numbers_in, place_of, text_fault};
+ghost use Rattle.text.specs.Cursors.{left, at_end, Opens, KeyedRead, LineRead, NumberRead};
 ghost use Rattle.text.specs.Fed.{Fed};
-ghost use Rattle.text.specs.Values.{value as value_at};
 ghost use Rattle.text.specs.Viability.{StopsAt};
 
 use crate::cursor::Reader;
 use crate::numbers::Numbers;
 use crate::place::{Numbered, Place, TextFault};
 use crate::values::value;
-use base::Question;
+use base::{Question, ask};
 
 // Whether a line ends in the text.
 fn ends(text: &[u8]) -> bool
     ensures { result ≡ ends_in text.now }
 {
-    for b in text {
-        if *b == b'\n' {
-            return true;
-        }
-    }
-    false
+    text.contains(&b'\n')
 }
 
-// Whether the text begins with the key and '='.
-fn begins(text: &[u8], key: &[u8]) -> bool
-    ensures finds { after key.now text.now ≡ (if result then Some (drop (length key.now + 1) text.now) else None) }
-    ensures within { result ≡ true → length key.now < length text.now }
+// What stands after the key and '=', if the text begins with them.
+fn value_bytes<'a>(text: &'a [u8], key: &[u8]) -> Option<&'a [u8]>
+    ensures { option_copied result ≡ after key.now text.now }
 {
-    for (i, k) in key.iter().enumerate() {
-        if i >= text.len() || text[i] != *k {
-            return false;
-        }
-    }
-    if key.len() >= text.len() {
-        return false;
-    }
-    match text[key.len()] as char {
-        '=' => true,
-        _ => false,
+    let (c, bytes) = text.strip_prefix(key)?.split_first()?;
+    match *c as char {
+        '=' => Some(bytes),
+        _ => None,
     }
 }
 
-// Whether the key and '=' stand at the byte `at`.
-fn begins_at(text: &[u8], at: usize, key: &[u8]) -> bool
-    requires { at ≤ length text.now }
-    ensures { result ≡ is_some (after key.now (drop at text.now)) }
-{
-    begins(&text[at..], key)
-}
-
-// The last number that was handed on.
-#[derive(Drop)]
-struct Lone {
-    number: Numbered,
-}
-
-impl Numbers for Lone {
-    ghost takes = { λ s x t. t.number ≡ x };
+// Keeps the last number that was handed on.
+impl Numbers for Option<Numbered> {
+    ghost takes = { λ s x t. t ≡ Some x };
 
     fn put(&mut self, n: Numbered) {
-        self.number = n;
-    }
-}
-
-// The one number of the value that begins at the byte `from`, and where its line ends; or the first byte after which no
-// value is possible.
-fn lone_value(text: &[u8], from: usize) -> Result<(Numbered, usize), usize>
-    requires { from ≤ length text.now }
-    ensures reads { LoneRead text.now (value_at false from (drop from text.now)) result }
-    ensures within { IfOk result (λ found. (from ≤ found.1) × (found.1 < length text.now)) }
-{
-    let mut lone = Lone {
-        number: Numbered {
-            value: 0,
-            byte: from,
-        },
-    };
-    match value(text, from, false, &mut lone) {
-        Ok(end) => Ok((lone.number, end)),
-        Err(byte) => Err(byte),
+        *self = Some(n);
     }
 }
 
@@ -88,10 +43,10 @@ impl<'a> Reader<'a> {
     // Stands at the first line of the text.
     pub fn new(text: &'a [u8]) -> Reader<'a>
         ensures start { (result.line ≡ 1) × (result.byte ≡ 0) }
-        ensures text { result.text.now ≡ text.now }
+        ensures text { left result ≡ text.now }
     {
         Reader {
-            text,
+            rest: text,
             line: 1,
             byte: 0,
         }
@@ -111,80 +66,73 @@ impl<'a> Reader<'a> {
     pub fn is_done(&self) -> bool
         ensures { result ≡ at_end self.now }
     {
-        self.byte >= self.text.len()
+        self.rest.is_empty()
     }
 
     // Whether the key and '=' stand here.
     pub fn begins(&self, key: &[u8]) -> bool
         ensures { result ≡ is_some (after key.now (left self.now)) }
     {
-        begins_at(self.text, self.byte, key)
+        value_bytes(self.rest, key).is_some()
     }
 
-    // Questions 1 and 2: where the value begins that stands after the key.
-    fn open(&self, key: &[u8]) -> Result<usize, TextFault>
+    // The fault of a question about the line that is due.
+    fn fault(&self, question: Question) -> TextFault
+        ensures { result ≡ text_fault question self.now.line self.now.byte }
+    {
+        TextFault {
+            question,
+            place: self.place(),
+        }
+    }
+
+    // Questions 1 and 2: where the value begins that stands after the key, and the bytes from there on.
+    fn open(&self, key: &[u8]) -> Result<(usize, &'a [u8]), TextFault>
         ensures { Opens key.now self.now result }
     {
-        let rest = &self.text[self.byte..];
-        if !ends(rest) {
-            return Err(TextFault {
-                question: Question::LineEnds,
-                place: self.place(),
-            });
-        }
-        if !begins(rest, key) {
-            return Err(TextFault {
-                question: Question::KeyDue,
-                place: self.place(),
-            });
-        }
-        Ok(self.byte + key.len() + 1)
+        ask(ends(self.rest), self.fault(Question::LineEnds))?;
+        let bytes = value_bytes(self.rest, key).ok_or(self.fault(Question::KeyDue))?;
+        Ok((self.byte + key.len() + 1, bytes))
+    }
+
+    // Hands on the numbers of the line that is due here, and stands where the next is due. The line has a list, or
+    // one number where `many` is false.
+    fn read<V: Numbers>(&mut self, key: &[u8], many: bool, out: &mut V) -> Result<(), TextFault>
+        ensures reads { KeyedRead many key.now self.old result self.new }
+        ensures fed { Fed V.Numbers.takes out.old (numbers_in many key.now self.old.byte (left self.old)) out.new }
+    {
+        let (from, bytes) = self.open(key)?;
+        let (end, rest) = value(bytes, from, many, out).map_err(|byte| TextFault {
+            question: Question::ValueFormed,
+            place: Place {
+                line: self.line,
+                byte,
+            },
+        })?;
+        *self = Reader {
+            rest,
+            line: self.line + 1,
+            byte: end + 1,
+        };
+        Ok(())
     }
 
     // Hands on the numbers of the list on the line that is due here, after which the next line is due.
     pub fn list<V: Numbers>(&mut self, key: &[u8], out: &mut V) -> Result<(), TextFault>
         ensures reads { LineRead key.now self.old result self.new }
         ensures fed { Fed V.Numbers.takes out.old (numbers_in true key.now self.old.byte (left self.old)) out.new }
-        ensures text { self.new.text.now ≡ self.old.text.now }
         ensures stops { StopsAt true key.now self.old.byte (left self.old) result }
     {
-        let from = self.open(key)?;
-        match value(self.text, from, true, out) {
-            Ok(end) => {
-                self.line += 1;
-                self.byte = end + 1;
-                Ok(())
-            }
-            Err(byte) => Err(TextFault {
-                question: Question::ValueFormed,
-                place: Place {
-                    line: self.line,
-                    byte,
-                },
-            }),
-        }
+        self.read(key, true, out)
     }
 
     // The number on the line that is due here, after which the next line is due.
     pub fn number(&mut self, key: &[u8]) -> Result<Numbered, TextFault>
         ensures reads { NumberRead key.now self.old result self.new }
-        ensures text { self.new.text.now ≡ self.old.text.now }
         ensures stops { StopsAt false key.now self.old.byte (left self.old) result }
     {
-        let from = self.open(key)?;
-        match lone_value(self.text, from) {
-            Ok((number, last)) => {
-                self.line += 1;
-                self.byte = last + 1;
-                Ok(number)
-            }
-            Err(byte) => Err(TextFault {
-                question: Question::ValueFormed,
-                place: Place {
-                    line: self.line,
-                    byte,
-                },
-            }),
-        }
+        let mut lone: Option<Numbered> = None;
+        self.read(key, false, &mut lone)?;
+        Ok(lone.unwrap())
     }
 }

@@ -3,26 +3,22 @@ ghost use Rattle.text.specs.Sinks.{Counts, Lays};
 
 use crate::sink::Sink;
 
-// How much room is left, and whether bytes came for which there was none.
+// How much room is left; nothing once a byte came for which there was none.
 #[derive(Drop)]
 pub(crate) struct Room {
-    pub(crate) left: usize,
-    pub(crate) over: bool,
+    pub(crate) left: Option<usize>,
 }
 
 impl Sink for Room {
     ghost takes = { Counts };
 
     fn put(&mut self, _b: u8) {
-        if self.left == 0 {
-            self.over = true;
-        } else {
-            self.left -= 1;
-        }
+        self.left = self.left.and_then(|left| left.checked_sub(1));
     }
 }
 
-// The caller's bytes, of which the first `at` are written.
+// The caller's bytes, of which the first `at` are written. With the slice of what is left in their place nothing is
+// known of the lent bytes at the end.
 #[derive(Drop)]
 pub(crate) struct Lent<'a> {
     pub(crate) bytes: &'a mut [u8],

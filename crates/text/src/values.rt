@@ -1,5 +1,5 @@
 // The value reader: one byte after another, with nothing kept of the line.
-ghost use Rattle.std.specs.Prelude.{◌≡◌, ◌<◌, ◌≤◌, length, drop, IfOk};
+ghost use Rattle.std.specs.Prelude.{◌≡◌, ◌+◌, ◌^◌, ◌-◌, ◌<◌, ◌≤◌, length, IfOk};
 ghost use Rattle.text.specs.Fed.{Fed};
 ghost use Rattle.text.specs.Values.{value as value_at, numbers_of};
 ghost use Rattle.text.specs.Steps.{stepped, ValueRead};
@@ -14,38 +14,43 @@ pub(crate) enum Before {
     Figures(Numbered),
 }
 
-// What a byte does to a value: it goes on; a number is complete and another is due; the value ends,
-// with a number or with none; or no value has these bytes.
+// What a byte does to a value that it belongs to: it goes on; a number is complete and another is due; or the value ends,
+// with a number or with none.
 #[derive(Clone, Copy)]
 pub(crate) enum Step {
     On(Before),
     Put(Numbered),
     Last(Numbered),
     Empty,
-    Stop,
 }
 
-// What the byte `c`, which stands at `at`, does to a value.
-fn take_byte(many: bool, before: Before, at: usize, c: char) -> Step
+// The number that the digit `c` writes. `to_digit` would answer an Option where `c` is known to be one.
+fn figure(c: char) -> u16
+    requires from_0 { 48 ≤ c }
+    requires to_9 { c ≤ 57 }
+    ensures { result ≡ c - 48 }
+{
+    (c as u32 - '0' as u32) as u16
+}
+
+// What the byte `c`, which stands at `at`, does to a value, or None where no value goes on with it. `many` stands in the
+// definitions too: a reader for each kind of value would be the same code twice.
+fn take_byte(many: bool, before: Before, at: usize, c: char) -> Option<Step>
     requires { c < 256 }
     ensures { result ≡ stepped many before at c }
 {
-    match before {
+    let step = match before {
         Before::Due(may) => match c {
-            '0'..='9' => {
-                let value = (c as u32 - '0' as u32) as u16;
-                Step::On(Before::Figures(Numbered { value, byte: at }))
-            }
+            '0'..='9' => Step::On(Before::Figures(Numbered {
+                value: figure(c),
+                byte: at,
+            })),
             '\n' if may => Step::Empty,
-            _ => Step::Stop,
+            _ => return None,
         },
         Before::Figures(n) => match c {
-            '0'..='9' => {
-                let digit = (c as u32 - '0' as u32) as u16;
-                if n.value == 0 || n.value > (65535 - digit) / 10 {
-                    return Step::Stop;
-                }
-                let value = n.value * 10 + digit;
+            '0'..='9' if n.value > 0 => {
+                let value = n.value.checked_mul(10)?.checked_add(figure(c))?;
                 Step::On(Before::Figures(Numbered {
                     value,
                     byte: n.byte,
@@ -53,27 +58,28 @@ fn take_byte(many: bool, before: Before, at: usize, c: char) -> Step
             }
             ',' if many => Step::Put(n),
             '\n' => Step::Last(n),
-            _ => Step::Stop,
+            _ => return None,
         },
-    }
+    };
+    Some(step)
 }
 
-// Hands on the numbers of the value that begins at the byte `from`, and answers where its line ends,
-// or the first byte after which no value is possible.
-pub(crate) fn value<V: Numbers>(
-    text: &[u8],
+// Hands on the numbers of the value that begins at the byte `from` with these bytes, and answers where its line ends and
+// what is left after it, or the first byte after which no value is possible.
+pub(crate) fn value<'a, V: Numbers>(
+    bytes: &'a [u8],
     from: usize,
     many: bool,
     out: &mut V,
-) -> Result<usize, usize>
-    requires { from ≤ length text.now }
-    ensures reads { ValueRead text.now (value_at many from (drop from text.now)) result }
-    ensures fed { Fed V.Numbers.takes out.old (numbers_of (value_at many from (drop from text.now))) out.new }
-    ensures within { IfOk result (λ end. (from ≤ end) × (end < length text.now)) }
+) -> Result<(usize, &'a [u8]), usize>
+    requires { from + length bytes.now < 2 ^ 64 }
+    ensures reads { ValueRead (value_at many from bytes.now) result }
+    ensures fed { Fed V.Numbers.takes out.old (numbers_of (value_at many from bytes.now)) out.new }
+    ensures within { IfOk result (λ met. (from ≤ met.0) × (met.0 + 1 + length met.1.now ≤ from + length bytes.now)) }
 {
     let mut before = Before::Due(many);
-    for at in from..text.len() {
-        match take_byte(many, before, at, text[at] as char) {
+    for (i, c) in bytes.iter().enumerate() {
+        match take_byte(many, before, from + i, *c as char).ok_or(from + i)? {
             Step::On(next) => before = next,
             Step::Put(n) => {
                 out.put(n);
@@ -81,11 +87,10 @@ pub(crate) fn value<V: Numbers>(
             }
             Step::Last(n) => {
                 out.put(n);
-                return Ok(at);
+                return Ok((from + i, &bytes[i + 1..]));
             }
-            Step::Empty => return Ok(at),
-            Step::Stop => return Err(at),
+            Step::Empty => return Ok((from + i, &bytes[i + 1..])),
         }
     }
-    Err(text.len())
+    Err(from + bytes.len())
 }

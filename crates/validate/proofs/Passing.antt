@@ -1,7 +1,8 @@
 -- Which plans pass. Assumes nothing.
-use Rattle.std.proofs.Common.{◌≡◌, ℕ, ◌+◌, ◌<◌, ◌≤◌, Bool, true, false, not, leb, List, [], ◌∷◌, ◌++◌, length, sym, refl, ap, ◌∙◌, subst, inl, inr, arith, length-append}
+use Rattle.std.proofs.Common.{◌≡◌, ℕ, ◌+◌, ◌<◌, ◌≤◌, Bool, true, not, leb, List, [], ◌∷◌, ◌++◌, length, sym, refl, ap, ◌∙◌, subst, arith, length-append}
 use Rattle.std.proofs.lemmas.Bool.{and_parts, and_from, ltb-true, lt-ltb, leb-true, le-leb, not-true, not_from_false}
 use Rattle.std.proofs.lemmas.List.{nil_from_length}
+use Rattle.std.proofs.lemmas.List.Sums.{AllPass-from_list_all, list_all-from_AllPass}
 use Rattle.base.proofs.Asking.{AllYes, yes_all, all_yes, all_parts, all_join}
 use Rattle.problem.specs.Data.{ProblemData}
 use Rattle.problem.specs.Plans.{known}
@@ -12,43 +13,29 @@ use Rattle.rules.specs.declared.entries.OpenTask.{OpenTask}
 use Rattle.rules.specs.declared.kinds.TaskKind.TheVariants.{Compound}
 use Rattle.rules.specs.Effects.{holds, all_hold, none_holds, conditions}
 use Rattle.rules.specs.Tasks.{method_at, kind_of, sub_of}
-use Rattle.rules.specs.Places.{Place, at_level, start_place, enabled, after, after_on}
-use Rattle.rules.specs.Rules.{In, Holds, Fits, Leads, Solution}
+use Rattle.rules.specs.Places.{Place, at_level, start_place, enabled, is_empty, after, after_on}
+use Rattle.rules.specs.Rules.{Holds, Fits, Leads, Solution}
 use Rattle.rules.proofs.Suiting.{do_kind, kind_do, by_kind, kind_by, kind_operator}
 use Rattle.rules.proofs.Levels.{at_level_long, fits_open, fits_after, LevelAt, Levels, levels_deep, deep_levels}
 use Rattle.rules.proofs.Textbook.{complete_solves, solved_complete}
-use Rattle.validate.specs.Verdicts.{is_open, suits_first, level_first, limits_asked, numbers_asked, rows_asked, following, opening, asked}
+use Rattle.validate.specs.Verdicts.{suits_first, level_first, limits_asked, numbers_asked, rows_asked, following, opening, asked}
 use Rattle.validate.specs.Judged.{Passes, Able, Validates}
 
 -- Conditions.
 
-hold_in : (s : List Bool) (ys : List ℕ) → all_hold s ys ≡ true → (f : ℕ) → In ys f → holds s f ≡ true
-hold_in s [] e f h = absurd h
-hold_in s (y ∷ ys) e f (inl k) = subst (λ x. holds s x ≡ true) k (and_parts (holds s y) (all_hold s ys) e).0
-hold_in s (y ∷ ys) e f (inr h) = hold_in s ys (and_parts (holds s y) (all_hold s ys) e).1 f h
-
-in_hold : (s : List Bool) (ys : List ℕ) → ((f : ℕ) → In ys f → holds s f ≡ true) → all_hold s ys ≡ true
-in_hold s [] h = refl
-in_hold s (y ∷ ys) h = and_from (holds s y) (all_hold s ys) (h y (inl refl)) (in_hold s ys (λ f k. h f (inr k)))
-
-hold_out : (s : List Bool) (ys : List ℕ) → none_holds s ys ≡ true → (f : ℕ) → In ys f → holds s f ≡ false
-hold_out s [] e f h = absurd h
-hold_out s (y ∷ ys) e f (inl k) = subst (λ x. holds s x ≡ false) k (not-true (holds s y) (and_parts (not (holds s y)) (none_holds s ys) e).0)
-hold_out s (y ∷ ys) e f (inr h) = hold_out s ys (and_parts (not (holds s y)) (none_holds s ys) e).1 f h
-
-out_hold : (s : List Bool) (ys : List ℕ) → ((f : ℕ) → In ys f → holds s f ≡ false) → none_holds s ys ≡ true
-out_hold s [] h = refl
-out_hold s (y ∷ ys) h = and_from (not (holds s y)) (none_holds s ys) (not_from_false (holds s y) (h y (inl refl))) (out_hold s ys (λ f k. h f (inr k)))
-
 holds_says : (s : List Bool) (ys ns : List ℕ) → conditions s ys ns ≡ true → Holds s ys ns
-holds_says s ys ns e = let a = and_parts (all_hold s ys) (none_holds s ns) e in (hold_in s ys a.0, hold_out s ns a.1)
+holds_says s ys ns e =
+    let a = and_parts (all_hold s ys) (none_holds s ns) e in
+    let out = AllPass-from_list_all (λ f. not (holds s f)) ns a.1 in
+    (AllPass-from_list_all (holds s) ys a.0, λ k d h. not-true _ (out k d h))
 
 says_holds : (s : List Bool) (ys ns : List ℕ) → Holds s ys ns → conditions s ys ns ≡ true
-says_holds s ys ns h = and_from (all_hold s ys) (none_holds s ns) (in_hold s ys h.0) (out_hold s ns h.1)
+says_holds s ys ns h =
+    and_from (all_hold s ys) (none_holds s ns) (list_all-from_AllPass (holds s) ys h.0) (list_all-from_AllPass (λ f. not (holds s f)) ns (λ k d l. not_from_false _ (h.1 k d l)))
 
 -- A row of which 4 and 16 to 19 are answered yes fits, and at its level.
 
-row_fits : (P : ProblemData) (L : ℕ) (r : Row) (s : List Bool) (todo : List OpenTask) → known P r ≡ true → is_open todo ≡ true → suits_first P r todo ≡ true → enabled P r s ≡ true
+row_fits : (P : ProblemData) (L : ℕ) (r : Row) (s : List Bool) (todo : List OpenTask) → known P r ≡ true → not (is_empty todo) ≡ true → suits_first P r todo ≡ true → enabled P r s ≡ true
     → Fits P (record { facts = s; todo = todo }) r (after_on P r s todo)
 row_fits P L r s [] x a b c = absurd (let k : ◌≡◌ {A = ℕ} 0 1 = cc in omega arith)
 row_fits P L (Do o) s (t ∷ ts) x a b c = (t, ts, refl, do_kind o 0 (kind_of P t.task) b, holds_says _ _ _ c, refl)
@@ -119,7 +106,7 @@ pass_rows P L k (r ∷ rs) p q l d v =
     let none : length q.todo ≡ 0 = ap length d in
     let room : leb (length (after P r p).todo) (length rs) ≡ true = le-leb _ _ (omega (arith, ap (λ (w : Place). length w.todo) is)) in
     let rest : AllYes (rows_asked P true L (k + 1) rs (after P r p)) = subst (λ (w : Place). AllYes (rows_asked P true L (k + 1) rs w)) (sym is) (pass_rows P L (k + 1) rs z q l.2 d (v.1 z f)) in
-    (ap is_open o.2, (fits_suits P r p z f, (fits_enabled P r p z f, (level_first_lem P L r p o.0 o.1 o.2 v.0, (room, rest)))))
+    (ap (λ (ts : List OpenTask). not (is_empty ts)) o.2, (fits_suits P r p z f, (fits_enabled P r p z f, (level_first_lem P L r p o.0 o.1 o.2 v.0, (room, rest)))))
 
 pass_numbers : (P : ProblemData) (j : ℕ) (rs : List Row) (p q : Place) → Leads P p rs q → AllYes (numbers_asked P j rs)
 pass_numbers P j [] p q l = tt

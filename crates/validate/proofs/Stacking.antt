@@ -1,50 +1,37 @@
 -- Open tasks on a slice. Assumes nothing.
-use Rattle.std.proofs.Common.{◌≡◌, ℕ, ◌+◌, ◌-◌, ◌<◌, ◌≤◌, min, true, List, [], ◌∷◌, ◌++◌, reverse, length, get_or, take, drop, set, sym, refl, ap, ◌∙◌, arith, length-append}
-use Rattle.std.proofs.lemmas.List.{take_more_set, take_more, reverse-append, drop_more, length-reverse, length-take-le}
-use Rattle.std.proofs.lemmas.Bool.{ltb-true, lt-ltb}
+use Rattle.std.proofs.Common.{◌≡◌, ℕ, ◌+◌, ◌<◌, ◌≤◌, true, List, [], ◌∷◌, ◌++◌, reverse, length, min, get_or, take, set, vec_items, sym, refl, ap, ◌∙◌, arith, length-append}
+use Rattle.std.proofs.lemmas.List.{take_more_set, take_more, reverse-append, length-reverse, length-take-le}
+use Rattle.std.proofs.lemmas.Bool.{ltb-true}
 use Rattle.rules.specs.declared.entries.OpenTask.{OpenTask}
 use Rattle.rules.specs.Places.{at_level, fits_level}
 use Rattle.rules.proofs.Levels.{at_level_long}
-use Rattle.validate.specs.Stacks.{stacked}
+use Rattle.validate.specs.Stacks.{stacked, tasks_of}
+use Rattle.validate.specs.declared.stack.OpenTasks.{OpenTasks}
 
-reverse_push : {X : Type 0} (xs : List X) (x : X) → reverse (xs ++ x ∷ []) ≡ x ∷ reverse xs
-reverse_push xs x = reverse-append xs (x ∷ [])
+-- one more comes first
+pub reverse_more : {X : Type 0} (xs : List X) (n : ℕ) (d : X) → n < length xs → reverse (take (n + 1) xs) ≡ get_or xs n d ∷ reverse (take n xs)
+reverse_more xs n d h = ap reverse (take_more xs n d h) ∙ reverse-append (take n xs) (get_or xs n d ∷ [])
 
--- one task more comes first
-stacked_push : (entries later : List OpenTask) (n : ℕ) (t : OpenTask) → later ≡ set entries n t → n < length entries → stacked later (n + 1) ≡ t ∷ stacked entries n
-stacked_push entries later n t is h = ap (λ xs. reverse (take (n + 1) xs)) is ∙ ap reverse (take_more_set entries n t h) ∙ reverse_push (take n entries) t
+-- a task is put before those that are open: the one at n of those that come in reverse
+pub push_more : (entries later : List OpenTask) (level used n : ℕ) (t : ℕ) (tasks : List ℕ) (rest : List OpenTask)
+    → later ≡ set entries used (record { task = t; level = level }) → used < length entries → n < length tasks → t ≡ get_or tasks n t
+    → stacked entries used ≡ at_level level (reverse (take n tasks)) ++ rest → stacked later (used + 1) ≡ at_level level (reverse (take (n + 1) tasks)) ++ rest
+push_more entries later level used n t tasks rest is h l this e =
+    let put : OpenTask = record { task = t; level = level } in
+    ap (λ xs. reverse (take (used + 1) xs)) is ∙ ap reverse (take_more_set entries used put h) ∙ reverse-append (take used entries) (put ∷ [])
+    ∙ ap (λ xs. put ∷ xs) e
+    ∙ ap (λ k. record { task = k; level = level } ∷ (at_level level (reverse (take n tasks)) ++ rest)) this
+    ∙ ap (λ xs. at_level level xs ++ rest) (sym (reverse_more tasks n t l))
 
--- the first of those that are open
-pub stacked_top : (entries : List OpenTask) (used : ℕ) (d : OpenTask) → 0 < used → used ≤ length entries → stacked entries used ≡ get_or entries (used - 1) d ∷ stacked entries (used - 1)
-stacked_top entries used d h l =
-    let e : used ≡ (used - 1) + 1 = omega arith in
-    let n = used - 1 in
-    ap (stacked entries) e ∙ ap reverse (take_more entries n d (omega arith)) ∙ reverse_push (take n entries) (get_or entries n d)
+-- how many are open
+pub tasks_long : (todo : OpenTasks) → length (tasks_of todo) ≡ todo.used
+tasks_long todo = length-reverse (take todo.used (vec_items todo.entries)) ∙ length-take-le todo.used (vec_items todo.entries) (omega (arith, todo.within, todo.entries.ok.0))
 
-pub push_more : (entries later : List OpenTask) (level n i : ℕ) (tasks : List ℕ) (rest : List OpenTask)
-    → later ≡ set entries n (record { task = get_or tasks i 0; level = level }) → n < length entries → i < length tasks
-    → stacked entries n ≡ at_level level (drop (i + 1) tasks) ++ rest → stacked later (n + 1) ≡ at_level level (drop i tasks) ++ rest
-push_more entries later level n i tasks rest is h l e =
-    stacked_push entries later n (record { task = get_or tasks i 0; level = level }) is h
-    ∙ ap (λ xs. record { task = get_or tasks i 0; level = level } ∷ xs) e
-    ∙ ap (λ xs. at_level level xs ++ rest) (sym (drop_more tasks i 0 l))
+-- how many are open once these are put before them
+pub open_long : (l : ℕ) (tasks : List ℕ) (ts : List OpenTask) → length (at_level l tasks ++ ts) ≡ length tasks + length ts
+open_long l tasks ts = length-append (at_level l tasks) ts ∙ ap (λ n. n + length ts) (at_level_long l tasks)
 
-stacked_long : (entries : List OpenTask) (n : ℕ) → n ≤ length entries → length (stacked entries n) ≡ n
-stacked_long entries n h = length-reverse (take n entries) ∙ length-take-le n entries h
-
--- how many are open once the subtasks are
-pub placed_long : (l : ℕ) (sub : List ℕ) (entries : List OpenTask) (n : ℕ) → n ≤ length entries → length (at_level l sub ++ stacked entries n) ≡ length sub + n
-placed_long l sub entries n h = length-append (at_level l sub) (stacked entries n) ∙ (λ i. at_level_long l sub i + stacked_long entries n h i)
-
--- a level that stops at 255 is right where there is a subtask
-pub level_stops : (l k : ℕ) (sub : List ℕ) → fits_level sub l 255 ≡ true → k ≡ min (l + 1) 255 → at_level k sub ≡ at_level (l + 1) sub
-level_stops l k [] h e = refl
-level_stops l k (t ∷ ts) h e =
-    let a : l < 255 = ltb-true l 255 h in
-    let b : k ≡ l + 1 = omega arith in
-    ap (λ n. at_level n (t ∷ ts)) b
-
--- a higher limit
-pub level_more : (sub : List ℕ) (l L M : ℕ) → L ≤ M → fits_level sub l L ≡ true → fits_level sub l M ≡ true
-level_more [] l L M h e = refl
-level_more (t ∷ ts) l L M h e = lt-ltb l M (let a : l < L = ltb-true l L e in omega arith)
+-- a level that fits is raised by one, though a byte stops at 255
+pub level_raised : (sub : List ℕ) (l L m : ℕ) → L ≤ 255 → fits_level sub l L ≡ true → m ≡ min (l + 1) 255 → at_level m sub ≡ at_level (l + 1) sub
+level_raised [] l L m h e is = refl
+level_raised (t ∷ ts) l L m h e is = ap (λ n. at_level n (t ∷ ts)) (let a : l < L = ltb-true l L e in let same : m ≡ l + 1 = omega (arith, is) in same)

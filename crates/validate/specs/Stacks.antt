@@ -1,23 +1,33 @@
--- Open tasks as the code keeps them, and what a row leaves of them. Assumes nothing.
-use Rattle.std.specs.Prelude.{◌≡◌, ℕ, ◌+◌, ◌<◌, ◌≤◌, Bool, List, [], ◌∷◌, ◌++◌, reverse, length, take, drop, Ok, Err, Result}
-use Rattle.base.specs.Asked.{Asked, ask, first_no}
+-- Open tasks and the rows left for them, as the code keeps them, and what is asked at them. Assumes nothing.
+use Rattle.std.specs.Prelude.{◌≡◌, ℕ, Bool, List, [], ◌∷◌, reverse, length, take, drop, nat_le, vec_items}
+use Rattle.std.specs.Slice.Iter.{iter_rest}
+use Rattle.base.specs.Asked.{Asked, ask}
 use Rattle.base.specs.declared.question.Question.TheVariants.{RowForTask, ConditionsHold, LevelRight, OpenWithinRows}
 use Rattle.problem.specs.Data.{ProblemData}
 use Rattle.problem.specs.Plans.{row_fault}
 use Rattle.problem.specs.declared.entries.Row.{Row}
 use Rattle.problem.specs.declared.faults.RowFault.{RowFault}
 use Rattle.rules.specs.declared.entries.OpenTask.{OpenTask}
-use Rattle.rules.specs.Tasks.{sub_of, suits}
-use Rattle.rules.specs.Places.{Place, at_level, enabled, level_right, after}
-use Rattle.validate.specs.Verdicts.{counts, row_asked}
+use Rattle.rules.specs.Tasks.{suits}
+use Rattle.rules.specs.Places.{Place, enabled, level_right}
+use Rattle.validate.specs.declared.stack.OpenTasks.{OpenTasks}
+use Rattle.validate.specs.Verdicts.{counts}
 
 -- the first `used` entries, the last of them first
 abbrev pub stacked : List OpenTask → ℕ → List OpenTask
 stacked entries used = reverse (take used entries)
 
--- the place that a state's facts and the stacked tasks mean
-abbrev pub place_of : ProblemData → List Bool → List OpenTask → ℕ → Place
-place_of P fs entries used = record { facts = take P.facts fs; todo = stacked entries used }
+-- the tasks that are open, the first of them first
+abbrev pub tasks_of : OpenTasks → List OpenTask
+tasks_of s = stacked (vec_items s.entries) s.used
+
+-- the rows that are left for them
+abbrev pub rows_of : OpenTasks → List Row
+rows_of s = iter_rest s.rows
+
+-- the place that a state's facts and the open tasks mean
+abbrev pub place_of : ProblemData → List Bool → List OpenTask → Place
+place_of P fs todo = record { facts = take P.facts fs; todo = todo }
 
 -- 17, 18 and 19, of the first open task
 abbrev pub task_asked : ProblemData → Bool → ℕ → ℕ → Row → List Bool → OpenTask → List (Asked RowFault)
@@ -27,24 +37,11 @@ task_asked P conditions L k r s t =
     ∷ ask (level_right P L r t) (row_fault LevelRight k)
     ∷ []
 
--- the subtasks take the task's place, or are more than the rows left
-abbrev pub Placed : ProblemData → ℕ → ℕ → Row → OpenTask → List OpenTask → List OpenTask → ℕ → Result ℕ RowFault → Type 0
-Placed P k left r t entries later behind (Ok used) =
-    (stacked later used ≡ at_level (t.level + 1) (sub_of P r) ++ stacked entries behind) × (used ≤ left) × (length (at_level (t.level + 1) (sub_of P r) ++ stacked entries behind) ≤ left)
-Placed P k left r t entries later behind (Err f) =
-    (f ≡ row_fault OpenWithinRows k) × (left < length (at_level (t.level + 1) (sub_of P r) ++ stacked entries behind))
+-- 20, once these tasks are open
+abbrev pub room_asked : ℕ → ℕ → List OpenTask → List (Asked RowFault)
+room_asked k left todo = ask (nat_le (length todo) left) (row_fault OpenWithinRows k) ∷ []
 
 -- facts beyond the problem's, and the size, are as they were
 pub record Kept (P : ProblemData) (fs gs : List Bool) : Type 0 where
   pub beyond : drop P.facts gs ≡ drop P.facts fs
   pub size : length gs ≡ length fs
-
--- a row that passes leads to where it leads
-pub record Went (P : ProblemData) (conditions : Bool) (L k left : ℕ) (r : Row) (p q : Place) (used : ℕ) : Type 0 where
-  pub yeses : first_no (row_asked P conditions L k left r p) ≡ Ok tt
-  pub leads : q ≡ after P r p
-  pub room : used ≤ left
-
-abbrev pub Checked : ProblemData → Bool → ℕ → ℕ → ℕ → Row → Place → (ℕ → Place) → Result ℕ RowFault → Type 0
-Checked P conditions L k left r p q (Ok used) = Went P conditions L k left r p (q used) used
-Checked P conditions L k left r p q (Err f) = first_no (row_asked P conditions L k left r p) ≡ Err f

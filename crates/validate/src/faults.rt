@@ -1,7 +1,9 @@
 // Why a plan did not pass.
 ghost use Rattle.std.specs.Prelude.{◌≡◌};
+ghost use Rattle.problem.specs.Plans.{row_fault};
 ghost use Rattle.validate.specs.declared.faults.Fault.TheVariants as fault;
 
+use base::Question;
 use problem::RowFault;
 use std::alloc::AllocError;
 
@@ -26,4 +28,11 @@ impl From<AllocError> for Fault {
     fn from(_e: AllocError) -> Fault {
         Fault::Memory
     }
+}
+
+// The question that was answered no, and the row of what it was asked of.
+pub(crate) fn row_fault(question: Question, row: usize) -> RowFault
+    ensures { result ≡ row_fault question row }
+{
+    RowFault { question, row }
 }

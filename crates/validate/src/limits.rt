@@ -2,9 +2,10 @@
 ghost use Rattle.std.specs.Prelude.{◌≡◌, length};
 ghost use Rattle.base.specs.Asked.{first_no};
 ghost use Rattle.problem.specs.Loaded.{problem_of};
-ghost use Rattle.validate.specs.Verdicts.{limits_asked, numbers_asked, count_asked, plan_asked};
+ghost use Rattle.validate.specs.Verdicts.{limits_asked, numbers_asked, plan_asked};
 
-use base::Question;
+use crate::faults::row_fault;
+use base::{Question, ask};
 use problem::{Problem, Row, RowFault};
 use rules::Limits;
 
@@ -17,63 +18,30 @@ pub(crate) fn check_limits(
 ) -> Result<(), RowFault>
     ensures { result ≡ first_no (limits_asked limits facts size count) }
 {
-    if limits.levels < 1 || limits.levels > 32 {
-        return Err(RowFault {
-            question: Question::LevelLimitInRange,
-            row: 0,
-        });
-    }
-    if limits.rows < 1 || limits.rows > 2000 {
-        return Err(RowFault {
-            question: Question::RowLimitInRange,
-            row: 0,
-        });
-    }
-    if facts > size {
-        return Err(RowFault {
-            question: Question::StateLargeEnough,
-            row: 0,
-        });
-    }
-    if count > limits.rows as usize {
-        return Err(RowFault {
-            question: Question::WithinRowLimit,
-            row: 0,
-        });
-    }
+    ask(
+        (1..=32).contains(&limits.levels),
+        Question::LevelLimitInRange,
+    )?;
+    ask((1..=2000).contains(&limits.rows), Question::RowLimitInRange)?;
+    ask(facts <= size, Question::StateLargeEnough)?;
+    ask(count <= usize::from(limits.rows), Question::WithinRowLimit)?;
     Ok(())
 }
 
 // Question 4 of all rows.
+#[tactic(auto, using(crate::proofs::Numbers::numbers_told))]
 pub(crate) fn check_numbers(problem: &Problem, rows: &[Row]) -> Result<(), RowFault>
     ensures { result ≡ first_no (numbers_asked (problem_of problem.now) 1 rows.now) }
 {
-    match problem.first_unknown(rows) {
-        None => Ok(()),
-        Some(row) => Err(RowFault {
-            question: Question::NumberInRange,
-            row,
-        }),
-    }
-}
-
-// Question 21 at the greatest row limit.
-fn check_count(count: usize) -> Result<(), RowFault>
-    ensures { result ≡ first_no (count_asked count) }
-{
-    if count > 2000 {
-        return Err(RowFault {
-            question: Question::WithinRowLimit,
-            row: 0,
-        });
-    }
-    Ok(())
+    problem
+        .first_unknown(rows)
+        .map_or(Ok(()), |row| Err(row_fault(Question::NumberInRange, row)))
 }
 
 // Whether the rows can be a plan of the problem at all: at most 2,000, each with a method or operator of the problem.
 pub fn check_plan(problem: &Problem, rows: &[Row]) -> Result<(), RowFault>
     ensures { result ≡ first_no (plan_asked (problem_of problem.now) rows.now) }
 {
-    check_count(rows.len())?;
+    ask(rows.len() <= 2000, Question::WithinRowLimit)?;
     check_numbers(problem, rows)
 }

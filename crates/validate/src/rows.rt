@@ -1,144 +1,93 @@
 // The rows of a plan in turn, over any state.
-ghost use Rattle.std.specs.Prelude.{◌≡◌, ◌≤◌, true, length, take};
+ghost use Rattle.std.specs.Prelude.{◌≡◌, ◌≤◌, [], length, take, IfOk};
 ghost use Rattle.base.specs.Asked.{first_no};
 ghost use Rattle.problem.specs.Loaded.{problem_of};
-ghost use Rattle.rules.specs.Tasks.{sub_of};
-ghost use Rattle.rules.specs.Places.{fits_level};
-ghost use Rattle.validate.specs.Verdicts.{following_from};
-ghost use Rattle.validate.specs.Stacks.{task_asked, place_of, Placed, Kept, Checked};
+ghost use Rattle.rules.specs.Places.{after};
+ghost use Rattle.validate.specs.Verdicts.{row_asked, following_from};
+ghost use Rattle.validate.specs.Stacks.{tasks_of, rows_of, task_asked, place_of, Kept};
 
-use crate::stack::push_all;
-use base::Question;
+use crate::faults::row_fault;
+use crate::stack::OpenTasks;
+use base::{Question, ask};
 use problem::{Problem, Row, RowFault};
 use rules::{OpenTask, is_enabled, is_for, is_level, perform, subtasks};
 use state::State;
 
-// Questions 17, 18 and 19 of the row, at the first open task; 18 only where conditions count.
-fn ask_row<S: State>(
-    problem: &Problem,
-    row: Row,
-    number: usize,
-    levels: u8,
-    conditions: bool,
-    state: &S,
-    task: OpenTask,
-) -> Result<(), RowFault>
-    ensures { result ≡ first_no (task_asked (problem_of problem.now) conditions levels number row (take (problem_of problem.now).facts (S.facts state.now)) task) }
-{
-    if !is_for(problem, row, task.task) {
-        return Err(RowFault {
-            question: Question::RowForTask,
-            row: number,
-        });
-    }
-    if conditions && !is_enabled(problem, row, state) {
-        return Err(RowFault {
-            question: Question::ConditionsHold,
-            row: number,
-        });
-    }
-    if !is_level(problem, row, levels, task) {
-        return Err(RowFault {
-            question: Question::LevelRight,
-            row: number,
-        });
-    }
-    Ok(())
+// What stays the same while rows are looked at in turn. Where conditions do not count, no fact matters. A flag, and no state
+// that may be missing: of what is lent in an Option a caller knows nothing afterwards.
+#[derive(Clone, Copy)]
+pub(crate) struct Check<'a> {
+    pub(crate) problem: &'a Problem,
+    pub(crate) levels: u8,
+    pub(crate) conditions: bool,
 }
 
-// Question 20, and the row's subtasks in its task's place; the answer is how many tasks are open then.
-fn place_row(
-    problem: &Problem,
-    row: Row,
-    number: usize,
-    left: usize,
-    task: OpenTask,
-    entries: &mut [OpenTask],
-    behind: usize,
-) -> Result<usize, RowFault>
-    requires room { left ≤ length entries.old }
-    requires held { behind ≤ length entries.old }
-    requires level { fits_level (sub_of (problem_of problem.now) row) task.level 255 ≡ true }
-    ensures { Placed (problem_of problem.now) number left row task entries.old entries.new behind result }
-{
-    let sub = subtasks(problem, row);
-    if behind > left {
-        return Err(RowFault {
-            question: Question::OpenWithinRows,
-            row: number,
-        });
-    }
-    if sub.len() > left - behind {
-        return Err(RowFault {
-            question: Question::OpenWithinRows,
-            row: number,
-        });
-    }
-    Ok(push_all(entries, behind, sub, task.level.saturating_add(1)))
-}
-
-// One row: questions 16 to 20, and its work; the answer is how many tasks are open after it.
-fn check_row<S: State>(
-    problem: &Problem,
-    row: Row,
-    number: usize,
-    left: usize,
-    levels: u8,
-    conditions: bool,
-    state: &mut S,
-    entries: &mut [OpenTask],
-    used: usize,
-) -> Result<usize, RowFault>
-    requires room { left ≤ length entries.old }
-    requires held { used ≤ length entries.old }
-    ensures answer { Checked (problem_of problem.now) conditions levels number left row (place_of (problem_of problem.now) (S.facts state.old) entries.old used) (place_of (problem_of problem.now) (S.facts state.new) entries.new) result }
-    ensures kept { Kept (problem_of problem.now) (S.facts state.old) (S.facts state.new) }
-{
-    if used == 0 {
-        return Err(RowFault {
-            question: Question::TaskOpen,
-            row: number,
-        });
-    }
-    let task = entries[used - 1];
-    ask_row(problem, row, number, levels, conditions, state, task)?;
-    let count = place_row(problem, row, number, left, task, entries, used - 1)?;
-    perform(problem, row, state);
-    Ok(count)
-}
-
-// The rows in turn: question 20 before the first, and then 16 to 20 of each. The entries are for the open tasks.
-pub(crate) fn check_rows<S: State>(
-    problem: &Problem,
-    rows: &[Row],
-    levels: u8,
-    conditions: bool,
-    state: &mut S,
-    entries: &mut [OpenTask],
-) -> Result<(), RowFault>
-    requires { length rows.now ≤ length entries.old }
-    ensures answer { result ≡ first_no (following_from (problem_of problem.now) conditions levels rows.now (take (problem_of problem.now).facts (S.facts state.old))) }
-    ensures kept { Kept (problem_of problem.now) (S.facts state.old) (S.facts state.new) }
-{
-    if problem.first.len() > rows.len() {
-        return Err(RowFault {
-            question: Question::OpenWithinRows,
-            row: 0,
-        });
-    }
-    let mut used = push_all(entries, 0, problem.first.as_slice(), 1);
-    for i in 0..rows.len() {
-        used = check_row(
-            problem,
-            rows[i],
-            i + 1,
-            rows.len() - 1 - i,
-            levels,
-            conditions,
-            state,
-            entries,
-            used,
+impl Check<'_> {
+    // Questions 17, 18 and 19 of the row, at the first open task; 18 only where conditions count. Where they pass,
+    // the limit is known to be a byte, so a split task's level can be raised by one.
+    fn ask_row<S: State>(
+        &self,
+        number: usize,
+        row: Row,
+        state: &S,
+        task: OpenTask,
+    ) -> Result<(), RowFault>
+        ensures answer { result ≡ first_no (task_asked (problem_of self.now.problem.now) self.now.conditions self.now.levels number row (take (problem_of self.now.problem.now).facts (S.facts state.now)) task) }
+        ensures byte { IfOk result (λ _. self.now.levels ≤ 255) }
+    {
+        ask(
+            is_for(self.problem, row, task.task),
+            row_fault(Question::RowForTask, number),
         )?;
+        ask(
+            !self.conditions || is_enabled(self.problem, row, state),
+            row_fault(Question::ConditionsHold, number),
+        )?;
+        ask(
+            is_level(self.problem, row, self.levels, task),
+            row_fault(Question::LevelRight, number),
+        )
     }
-    Ok(())
+
+    // One row: questions 16 to 20, and its work.
+    fn check_row<S: State>(
+        &self,
+        number: usize,
+        row: Row,
+        state: &mut S,
+        todo: &mut OpenTasks,
+    ) -> Result<(), RowFault>
+        ensures answer { result ≡ first_no (row_asked (problem_of self.now.problem.now) self.now.conditions self.now.levels number (length (rows_of todo.old)) row (place_of (problem_of self.now.problem.now) (S.facts state.old) (tasks_of todo.old))) }
+        ensures leads { IfOk result (λ _. place_of (problem_of self.now.problem.now) (S.facts state.new) (tasks_of todo.new) ≡ after (problem_of self.now.problem.now) row (place_of (problem_of self.now.problem.now) (S.facts state.old) (tasks_of todo.old))) }
+        ensures kept { Kept (problem_of self.now.problem.now) (S.facts state.old) (S.facts state.new) }
+        ensures rows { rows_of todo.new ≡ rows_of todo.old }
+    {
+        let task = todo
+            .take_first()
+            .ok_or(row_fault(Question::TaskOpen, number))?;
+        self.ask_row(number, row, state, task)?;
+        todo.put(subtasks(self.problem, row), task.level.saturating_add(1))
+            .map_err(|question| row_fault(question, number))?;
+        perform(self.problem, row, state);
+        Ok(())
+    }
+
+    // The rows in turn: question 20 before the first, and then 16 to 20 of each.
+    pub(crate) fn check_rows<S: State>(
+        &self,
+        state: &mut S,
+        mut todo: OpenTasks,
+    ) -> Result<(), RowFault>
+        requires none { tasks_of todo ≡ [] }
+        ensures answer { result ≡ first_no (following_from (problem_of self.now.problem.now) self.now.conditions self.now.levels (rows_of todo.entry) (take (problem_of self.now.problem.now).facts (S.facts state.old))) }
+        ensures kept { Kept (problem_of self.now.problem.now) (S.facts state.old) (S.facts state.new) }
+    {
+        let count = todo.rows.len();
+        todo.put(self.problem.first.as_slice(), 1)?;
+        while let Some(row) = todo.rows.next() {
+            // the row's number follows from how many are left after it
+            self.check_row(count - todo.rows.len(), *row, state, &mut todo)?;
+        }
+        Ok(())
+    }
 }

@@ -4,10 +4,10 @@ ghost use Rattle.problem.specs.Loaded.{problem_of};
 ghost use Rattle.validate.specs.Verdicts.{asked};
 ghost use Rattle.validate.specs.Judged.{Answers, Leaves, Validates};
 
-use crate::decomposition::room_for;
 use crate::faults::Fault;
 use crate::limits::{check_limits, check_numbers};
-use crate::rows::check_rows;
+use crate::rows::Check;
+use crate::stack::OpenTasks;
 use problem::{Problem, Row};
 use rules::{Limits, put_start};
 use state::State;
@@ -15,6 +15,7 @@ use std::alloc::Global;
 
 // Answers the number of rows where the plan is a solution within the limits, and else the first question answered no.
 // Facts are asked of the state alone, which is left with the problem's start facts once the rows were looked at.
+#[tactic(auto, using(crate::proofs::Passing::validates), unfolding(problem::specs::Loaded::problem_of))]
 pub fn validate<S: State>(
     heap: Global,
     problem: &Problem,
@@ -28,17 +29,15 @@ pub fn validate<S: State>(
 {
     check_limits(limits, problem.facts, state.size(), rows.len())?;
     check_numbers(problem, rows)?;
-    let mut entries = room_for(heap, rows.len())?;
+    let todo = OpenTasks::new(heap, rows)?;
     // the state is large enough, so neither is refused
     let _ = put_start(problem, state);
-    let answer = check_rows(
+    let check = Check {
         problem,
-        rows,
-        limits.levels,
-        true,
-        state,
-        entries.as_mut_slice(),
-    );
+        levels: limits.levels,
+        conditions: true,
+    };
+    let answer = check.check_rows(state, todo);
     let _ = put_start(problem, state);
     answer?;
     Ok(rows.len())

@@ -1,7 +1,7 @@
--- The lines that are listed are those of the trees, and fill the slice. Assumes nothing.
-use Rattle.std.proofs.Common.{◌≡◌, ℕ, suc, ◌+◌, ◌≤◌, false, List, [], ◌∷◌, ◌++◌, length, take, drop, set, Ok, sym, refl, ap, ◌∙◌, subst, ap₂, append_assoc, arith, lit≤, length-append, length-set}
+-- The lines that are listed are those of the trees, one for each row. Assumes nothing.
+use Rattle.std.proofs.Common.{◌≡◌, ℕ, suc, ◌+◌, ◌≤◌, false, List, [], ◌∷◌, ◌++◌, length, Ok, sym, refl, ap, ◌∙◌, subst, ap₂, append_assoc, arith, lit≤, length-append}
 use Rattle.std.specs.List.{AllByRecursion}
-use Rattle.std.proofs.lemmas.List.{append-nil, drop_all, take-append-drop, take_more_set, drop-set-lt}
+use Rattle.std.proofs.lemmas.List.{append-nil}
 use Rattle.std.proofs.lemmas.Bool.{leb-true}
 use Rattle.base.specs.Asked.{first_no}
 use Rattle.base.proofs.Asking.{AllYes, yes_all, all_parts}
@@ -16,7 +16,7 @@ use Rattle.rules.proofs.Textbook.{names_level}
 use Rattle.validate.specs.Verdicts.{numbers_asked, rows_asked, following, decomposition_asked}
 use Rattle.views.specs.declared.tree.Node.{Node}
 use Rattle.views.specs.Forests.{Forest, none, grow, Decomposes, rows_of, lines_of}
-use Rattle.views.specs.Lines.{nodes_at, below, lines, laid, tree_lines}
+use Rattle.views.specs.Lines.{nodes_at, lines, tree_lines}
 use Rattle.views.specs.Trees.{lines_text, tree_text, Tree}
 use Rattle.views.proofs.Growing.{Grown, grown, opens, opens_first, Low, low_first, lines_low}
 
@@ -51,18 +51,6 @@ length_lines (grow u r subs others) parent level k =
     ∙ ap₂ ◌+◌ (length_lines subs k (level + 1) (k + 1)) (length_lines others parent level (k + 1 + length (rows_of subs)))
     ∙ sym (length-append (rows_of subs) (rows_of others)))
 
-laid_is : (P : ProblemData) (i : ℕ) (rs : List Row) (todo nodes : List Node) → i + length (lines P (i + 1) rs todo) ≤ length nodes
-    → laid P i rs todo nodes ≡ take i nodes ++ (lines P (i + 1) rs todo ++ drop (i + length (lines P (i + 1) rs todo)) nodes)
-laid_is P i [] todo nodes h = let e : i ≡ i + 0 = omega arith in sym (take-append-drop i nodes) ∙ ap (λ n. take i nodes ++ drop n nodes) e
-laid_is P i (r ∷ rs) [] nodes h = let e : i ≡ i + 0 = omega arith in sym (take-append-drop i nodes) ∙ ap (λ n. take i nodes ++ drop n nodes) e
-laid_is P i (r ∷ rs) (n ∷ ns) nodes h =
-    let todo = below P (i + 1) r n ++ ns in
-    let more = lines P (i + 1 + 1) rs todo in
-    let ih = laid_is P (i + 1) rs todo (set nodes i n) (omega (arith, length-set nodes i n)) in
-    let e : i + 1 + length more ≡ i + suc (length more) = omega arith in
-    ih ∙ ap₂ (λ xs ys. xs ++ (more ++ ys)) (take_more_set nodes i n (omega arith)) (drop-set-lt (i + 1 + length more) nodes i n (omega arith) ∙ ap (λ k. drop k nodes) e)
-    ∙ append_assoc (take i nodes) (n ∷ []) (more ++ drop (i + suc (length more)) nodes)
-
 module _ (P : ProblemData) (rows : List Row) (passes : first_no (decomposition_asked P rows) ≡ Ok tt) where
   yeses : AllYes (numbers_asked P 1 rows) × AllYes (following P false 32 rows)
   yeses = all_parts (numbers_asked P 1 rows) (following P false 32 rows) (yes_all (decomposition_asked P rows) passes).1
@@ -81,13 +69,6 @@ module _ (P : ProblemData) (rows : List Row) (passes : first_no (decomposition_a
 
   pub lines_long : length (tree_lines P rows) ≡ length rows
   lines_long = ap length listed ∙ length_lines tree.0 0 1 1 ∙ ap length tree.2
-
-  -- a slice that has a place for each row has just the lines once they are laid
-  pub laid_whole : (nodes : List Node) → length nodes ≡ length rows → laid P 0 rows (nodes_at 0 1 P.first) nodes ≡ tree_lines P rows
-  laid_whole nodes e =
-      let long = lines_long in
-      laid_is P 0 rows (nodes_at 0 1 P.first) nodes (omega arith)
-      ∙ ap (λ xs. tree_lines P rows ++ xs) (drop_all (0 + length (tree_lines P rows)) nodes (omega arith)) ∙ append-nil (tree_lines P rows)
 
   low : AllByRecursion (Low 32) (tree_lines P rows)
   low =

@@ -40,7 +40,7 @@ Grown P rows ts = (F : Forest) × Decomposes P F ts × (rows_of F ≡ rows)
 pub grown : (P : ProblemData) (L k j : ℕ) (rows : List Row) (s : List Bool) (todo : List OpenTask) → AllYes (numbers_asked P j rows) → AllYes (rows_asked P false L k rows (record { facts = s; todo = todo })) → length todo ≤ length rows
     → Grown P rows (names todo)
 grown P L k j [] s todo n y h = (none, subst (λ xs. Decomposes P none (names xs)) (sym (nil_from_length todo (omega arith))) tt, refl)
-grown P L k j (r ∷ rs) s [] n y h = absurd (let z = y.0 in let q : ◌≡◌ {A = ℕ} 0 1 = cc in omega arith)
+grown P L k j (r ∷ rs) s [] n y h = absurd (let z = y.0 in cc)
 grown P L k j (Do o ∷ rs) s (t ∷ ts) n y h =
     let rest = y.1.1.1.1 in
     let w = grown P L (k + 1) (j + 1) rs (worked P (Do o) s) ts n.1 rest.1 (leb-true _ _ rest.0) in

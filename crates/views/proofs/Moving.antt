@@ -1,5 +1,6 @@
 -- What a walk shows and where it goes, from the row at which it stands. Assumes nothing.
 use Rattle.std.proofs.Common.{◌≡◌, ℕ, List, Some, None, Ok, Err, Option, Result, sym, refl, ap, ◌∙◌, subst, arith}
+use Rattle.std.specs.Result.{result_and}
 use Rattle.base.specs.Asked.{first_no}
 use Rattle.base.proofs.Asking.{append_ok, append_no}
 use Rattle.problem.specs.Data.{ProblemData}
@@ -8,14 +9,14 @@ use Rattle.problem.specs.declared.faults.RowFault.{RowFault}
 use Rattle.views.specs.declared.walk.Step.{Step}
 use Rattle.views.specs.declared.walk.Stop.{Stop}
 use Rattle.validate.specs.Verdicts.{plan_asked}
-use Rattle.views.specs.Walks.{answered, over_asked, done_asked, standing, found, step_of, behind, StandsAt, Stands, Shows, Moves}
+use Rattle.views.specs.Walks.{over_asked, done_asked, standing, found, shown, Stands, Shows}
 
-accepted : {X : Type 0} (r : Result (Unit {0}) RowFault) (x o : X) → Ok o ≡ answered r x → (r ≡ Ok tt) × (o ≡ x)
+accepted : {X : Type 0} (r : Result (Unit {0}) RowFault) (x o : X) → Ok o ≡ result_and r (Ok x) → (r ≡ Ok tt) × (o ≡ x)
 accepted (Ok u) x o e = (refl, cc)
-accepted (Err f) x o e = absurd (let k : ◌≡◌ {A = ℕ} 0 1 = cc in omega arith)
+accepted (Err f) x o e = absurd cc
 
-refused : {X : Type 0} (r : Result (Unit {0}) RowFault) (x : X) (f : RowFault) → Err f ≡ answered r x → r ≡ Err f
-refused (Ok u) x f e = absurd (let k : ◌≡◌ {A = ℕ} 0 1 = cc in omega arith)
+refused : {X : Type 0} (r : Result (Unit {0}) RowFault) (x : X) (f : RowFault) → Err f ≡ result_and r (Ok x) → r ≡ Err f
+refused (Ok u) x f e = cc
 refused (Err g) x f e = cc
 
 module _ (P : ProblemData) (place : ℕ) (rows : List Row) where
@@ -27,9 +28,6 @@ module _ (P : ProblemData) (place : ℕ) (rows : List Row) where
       let a = accepted (first_no (plan_asked P rows)) (standing place rows) o e in
       append_ok (plan_asked P rows) (over_asked (standing place rows)) a.0 ∙ ap (λ s. first_no (over_asked s)) (sym a.1)
 
-  pub shows : (stop : Stop) (step : Step) → StandsAt place rows stop → step ≡ step_of P rows stop → Shows P place rows (Ok (Some step))
-  shows stop step s e = (stop, s, ap (λ (w : Step). w.shelf) e, ap (λ (w : Step). w.remaining) e ∙ omega (arith, s.count))
-
-pub moves : (place : ℕ) (rows : List Row) (o : Option Stop) (r : Result (Unit {0}) RowFault) (later : ℕ) → Stands place rows o → r ≡ first_no (over_asked o) → later ≡ behind place o → Moves place rows r later
-moves place rows None r later s e k = subst (λ x. Moves place rows x later) (sym e) k
-moves place rows (Some stop) r later s e k = subst (λ x. Moves place rows x later) (sym e) (stop, s, k)
+  pub shows : (o : Option Stop) (r : Option Step) → Stands place rows o → Ok r ≡ shown P rows (Ok o) → Shows P place rows (Ok r)
+  shows None r s e = subst (Shows P place rows) (sym e) s
+  shows (Some stop) r s e = subst (Shows P place rows) (sym e) (stop, s, refl, omega (arith, s.count))

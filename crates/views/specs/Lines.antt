@@ -1,5 +1,5 @@
 -- The lines of a plan's tree, row by row. Assumes nothing.
-use Rattle.std.specs.Prelude.{ℕ, ◌+◌, List, [], ◌∷◌, ◌++◌, slice_set}
+use Rattle.std.specs.Prelude.{ℕ, ◌+◌, List, [], ◌∷◌, ◌++◌, map}
 use Rattle.problem.specs.Data.{ProblemData}
 use Rattle.problem.specs.declared.entries.Row.{Row}
 use Rattle.rules.specs.Tasks.{sub_of}
@@ -7,8 +7,7 @@ use Rattle.views.specs.declared.tree.Node.{Node}
 
 -- the nodes of tasks that have this parent and lie at this level
 abbrev pub nodes_at : ℕ → ℕ → List ℕ → List Node
-nodes_at parent level [] = []
-nodes_at parent level (t ∷ ts) = record { parent = parent; level = level; task = t } ∷ nodes_at parent level ts
+nodes_at parent level ts = map (λ t. record { parent = parent; level = level; task = t }) ts
 
 -- the nodes that the row numbered k puts in the place of n
 abbrev pub below : ProblemData → ℕ → Row → Node → List Node
@@ -19,12 +18,6 @@ abbrev pub lines : ProblemData → ℕ → List Row → List Node → List Node
 lines P k [] todo = []
 lines P k (r ∷ rs) [] = []
 lines P k (r ∷ rs) (n ∷ ns) = n ∷ lines P (k + 1) rs (below P k r n ++ ns)
-
--- a slice once the lines are put there, from the place i on
-abbrev pub laid : ProblemData → ℕ → List Row → List Node → List Node → List Node
-laid P i [] todo nodes = nodes
-laid P i (r ∷ rs) [] nodes = nodes
-laid P i (r ∷ rs) (n ∷ ns) nodes = laid P (i + 1) rs (below P (i + 1) r n ++ ns) (slice_set nodes i n)
 
 -- the lines of a plan, from the problem's first tasks on
 abbrev pub tree_lines : ProblemData → List Row → List Node

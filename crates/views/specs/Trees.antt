@@ -11,7 +11,6 @@ use Rattle.problem.specs.declared.faults.RowFault.{RowFault}
 use Rattle.validate.specs.declared.faults.Fault.{Fault}
 use Rattle.validate.specs.Verdicts.{decomposition_asked}
 use Rattle.views.specs.declared.tree.Node.{Node}
-use Rattle.views.specs.declared.tree.TreeLines.{TreeLines}
 use Rattle.views.specs.Forests.{Forest, Decomposes, rows_of, lines_of}
 use Rattle.views.specs.Lines.{tree_lines}
 
@@ -21,9 +20,6 @@ node_text n = line_of (codes "node") (n.parent ∷ n.level ∷ n.task ∷ [])
 -- the number of a problem and that of a plan's rows, and then the lines of its tree
 abbrev pub lines_text : ℕ → ℕ → List Node → List ℕ
 lines_text number count nodes = line_of (codes "shop") (number ∷ []) ++ (line_of (codes "rows") (count ∷ []) ++ each node_text nodes)
-
-abbrev pub lines_bytes : TreeLines → List ℕ
-lines_bytes t = lines_text t.number (length t.nodes.now) t.nodes.now
 
 -- the text of a plan's tree
 unfoldable pub tree_text : ProblemData → List Row → List ℕ

@@ -1,6 +1,8 @@
 -- Where a walk stands, what it shows and where it goes. Assumes nothing.
 use Rattle.std.specs.Prelude.{◌≡◌, ℕ, ◌+◌, ◌-◌, ◌≤◌, cond, List, [], ◌∷◌, ◌++◌, length, drop, is_some, Some, None, Ok, Err, codes, decimal, Option, Result, nat_le}
 use Rattle.std.specs.List.{AllByRecursion}
+use Rattle.std.specs.Option.{option_or}
+use Rattle.std.specs.Result.{result_and}
 use Rattle.base.specs.Asked.{Asked, ask, first_no}
 use Rattle.base.specs.declared.question.Question.TheVariants.{WalkNotOver}
 use Rattle.problem.specs.Data.{ProblemData}
@@ -18,23 +20,14 @@ abbrev pub here : ℕ → ℕ → Row → Option Stop
 here place k (By m) = None
 here place k (Do o) = cond (nat_le place k) (Some (record { row = k; operator = o })) None
 
-abbrev pub or_else : {X : Type 0} → Option X → Option X → Option X
-or_else (Some x) o = Some x
-or_else None o = o
-
 -- the first such stop, of rows that are numbered from k on
 abbrev pub first_stop : ℕ → ℕ → List Row → Option Stop
 first_stop place k [] = None
-first_stop place k (r ∷ rs) = or_else (here place k r) (first_stop place (k + 1) rs)
+first_stop place k (r ∷ rs) = option_or (here place k r) (first_stop place (k + 1) rs)
 
 -- the row at which a walk stands
 abbrev pub standing : ℕ → List Row → Option Stop
 standing place rows = first_stop place 1 rows
-
--- a value, where the questions are passed
-abbrev pub answered : {X : Type 0} → Result (Unit {0}) RowFault → X → Result X RowFault
-answered (Ok u) x = Ok x
-answered (Err f) x = Err f
 
 -- 23
 abbrev pub over_asked : Option Stop → List (Asked RowFault)
@@ -45,7 +38,7 @@ done_asked P place rows = plan_asked P rows ++ over_asked (standing place rows)
 
 -- the row at which a walk stands, of rows that pass 21 and 4
 abbrev pub found : ProblemData → ℕ → List Row → Result (Option Stop) RowFault
-found P place rows = answered (first_no (plan_asked P rows)) (standing place rows)
+found P place rows = result_and (first_no (plan_asked P rows)) (Ok (standing place rows))
 
 abbrev pub step_of : ProblemData → List Row → Stop → Step
 step_of P rows s = record { shelf = (operator_at P s.operator).shelf; remaining = length rows - s.row }
@@ -55,13 +48,10 @@ shown P rows (Ok None) = Ok None
 shown P rows (Ok (Some s)) = Ok (Some (step_of P rows s))
 shown P rows (Err f) = Err f
 
--- the place once a stop is done
-abbrev pub behind : ℕ → Option Stop → ℕ
-behind place None = place
-behind place (Some s) = s.row + 1
-
+-- the place once the stop that was found is done; with none found it stays
 abbrev pub moved : ℕ → Result (Option Stop) RowFault → ℕ
-moved place (Ok o) = behind place o
+moved place (Ok None) = place
+moved place (Ok (Some s)) = s.row + 1
 moved place (Err f) = place
 
 -- In the subject's words.

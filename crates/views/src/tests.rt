@@ -1,10 +1,11 @@
-// The tree and the walk of the worked plan, which were worked out by hand. That there is an answer, and not a want of memory, no
-// contract says.
+// The tree and the walk of the worked plan, which were worked out by hand. That there is an answer, and not a want of memory,
+// no contract says.
 use crate::tree::write_tree;
-use crate::walk::Walk;
+use crate::walk::{Step, Walk};
 use problem::{Problem, Row};
 use std::test::Fail;
 
+// As in `cases`, which is a program of its own.
 const SHOP: &[u8] =
     b"shop=7\nfacts=3\nops=3\ntasks=1\nmethods=2\nstart=\nfirst=3\nshelf=0\nyes=\nno=0\nadd=0\ndel=\nshelf=4117\nyes=0\nno=1\nadd=1\ndel=\nshelf=4118\nyes=0\nno=2\nadd=2\ndel=\nfor=3\nyes=0\nno=\nsub=1,2\nfor=3\nyes=\nno=0\nsub=0,3\n";
 
@@ -36,12 +37,17 @@ fn walk(rt: HostRuntime) -> Result<(), Fail> {
     let mut walk = Walk::new();
     for (shelf, remaining) in [(0, 3), (4117, 1), (4118, 0)] {
         let step = walk.show(&problem, &rows)?;
-        assert_eq!(rt;
-            step.map(|s| (s.shelf, s.remaining)),
-            Some((shelf, remaining))
-        );
+        assert_eq!(rt; step, Some(Step { shelf, remaining }));
         walk.done(&problem, &rows)?;
     }
     assert!(rt; walk.show(&problem, &rows)?.is_none());
+    Ok(())
+}
+
+#[test]
+fn rows(rt: HostRuntime) -> Result<(), Fail> {
+    let (problem, rows) = worked(&rt)?;
+    let loaded = problem.load_rows(rt.alloc(), LIST)?;
+    assert!(rt; loaded.as_slice() == rows.as_slice());
     Ok(())
 }

@@ -1,10 +1,10 @@
 // The walk along the stops of a plan, which are its `do` rows.
-ghost use Rattle.std.specs.Prelude.{◌≡◌, ◌≤◌, length, IfSome};
+ghost use Rattle.std.specs.Prelude.{◌≡◌, ◌≤◌, length};
 ghost use Rattle.base.specs.Asked.{first_no};
 ghost use Rattle.text.specs.Rendered.{Written};
 ghost use Rattle.problem.specs.Loaded.{problem_of};
 ghost use Rattle.rules.specs.Tasks.{operator_at};
-ghost use Rattle.views.specs.Walks.{here, standing, over_asked, done_asked, found, step_of, shown, behind, moved, Stands, Finds, Shows, Moves, step_text};
+ghost use Rattle.views.specs.Walks.{here, standing, done_asked, found, step_of, shown, moved, Stands, Finds, Shows, Moves, step_text};
 
 use base::Question;
 use problem::{Problem, Row, RowFault};
@@ -18,7 +18,7 @@ pub struct Walk {
 }
 
 // What is shown at a stop: its shelf code, and how many rows come after it.
-#[derive(Clone, Copy, Debug)]
+#[derive(Clone, Copy, Debug, PartialEq, Eq)]
 pub struct Step {
     pub shelf: u16,
     pub remaining: usize,
@@ -49,22 +49,20 @@ fn find(rows: &[Row], place: usize) -> Option<Stop>
     ensures is { result ≡ standing place rows.now }
     ensures means { Stands place rows.now result }
 {
-    for (index, row) in rows.iter().enumerate() {
-        if let Some(stop) = stop_here(*row, index + 1, place) {
-            return Some(stop);
-        }
-    }
-    None
+    rows.iter()
+        .enumerate()
+        .find_map(|(index, row)| stop_here(*row, index + 1, place))
 }
 
-// The operator's shelf code; 0 where there is no such operator.
+// The operator's shelf code; 0 where there is no such operator, as the definitions have it. `rules` looks operators up by a
+// function of its own, and the number is cast as there.
 fn shelf(problem: &Problem, operator: u16) -> u16
     ensures { result ≡ (operator_at (problem_of problem.now) operator).shelf }
 {
-    match problem.operators.as_slice().get(operator as usize) {
-        None => 0,
-        Some(entry) => entry.shelf,
-    }
+    problem
+        .operators
+        .get(operator as usize)
+        .map_or(0, |entry| entry.shelf)
 }
 
 impl Render for Step {
@@ -72,7 +70,7 @@ impl Render for Step {
 
     fn render<S: Sink>(&self, sink: &mut S) {
         put_bytes(sink, b"step=");
-        put_number(sink, self.shelf as usize);
+        put_number(sink, usize::from(self.shelf));
         put_bytes(sink, b",");
         put_number(sink, self.remaining);
         put_bytes(sink, b"\n");
@@ -116,33 +114,13 @@ impl Walk {
         Ok(find(rows, self.place))
     }
 
-    // Goes on behind the stop; without one the walk is over.
-    fn pass(&mut self, stop: Option<Stop>) -> Result<(), RowFault>
-        requires { IfSome stop (λ s. s.row ≤ 2000) }
-        ensures is { result ≡ first_no (over_asked stop) }
-        ensures place { self.new.place ≡ behind self.old.place stop }
-    {
-        match stop {
-            None => Err(RowFault {
-                question: Question::WalkNotOver,
-                row: 0,
-            }),
-            Some(stop) => {
-                self.place = stop.row + 1;
-                Ok(())
-            }
-        }
-    }
-
     // What is to be done where the walk stands, or nothing when it is over.
     pub fn show(&self, problem: &Problem, rows: &[Row]) -> Result<Option<Step>, RowFault>
         ensures is { result ≡ shown (problem_of problem.now) rows.now (found (problem_of problem.now) self.now.place rows.now) }
         ensures means { Shows (problem_of problem.now) self.now.place rows.now result }
     {
-        match self.stop(problem, rows)? {
-            None => Ok(None),
-            Some(stop) => Ok(Some(step_at(problem, rows, stop))),
-        }
+        let stop = self.stop(problem, rows)?;
+        Ok(stop.map(|stop| step_at(problem, rows, stop)))
     }
 
     // Goes on behind the row where the walk stands; a refusal leaves the place.
@@ -151,7 +129,8 @@ impl Walk {
         ensures place { self.new.place ≡ moved self.old.place (found (problem_of problem.now) self.old.place rows.now) }
         ensures means { Moves self.old.place rows.now result self.new.place }
     {
-        let stop = self.stop(problem, rows)?;
-        self.pass(stop)
+        let stop = self.stop(problem, rows)?.ok_or(Question::WalkNotOver)?;
+        self.place = stop.row + 1;
+        Ok(())
     }
 }

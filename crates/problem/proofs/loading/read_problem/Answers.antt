@@ -11,38 +11,38 @@ use Rattle.problem.proofs.loading.read_problem.Goals as goal
 pub returns-in_err-head : goal.returns-in_err-head
 returns-in_err-head c =
     let p = err_from_is_err_and c.from_residual.result c.from_residual.ensures.1 in
-    simp (p.1, p.2) (head_fails c.new-reader.result c.args.text.now c.new-reader.ensures.start c.new-reader.ensures.text (flaw_of c.in_err-head.field-0.0) c.in_err-head.ensures.reads)
+    simp (p.1, p.2) (head_fails c.new-loader.result.reader c.args.text.now c.new-loader.ensures (flaw_of c.in_err-head.field-0.0) c.in_err-head.ensures)
 
 pub returns-in_err-operators : goal.returns-in_err-operators
 returns-in_err-operators c =
     let p = err_from_is_err_and c.from_residual-in_err-operators.result c.from_residual-in_err-operators.ensures.1 in
-    simp (p.1, p.2) (operators_fail c.new-reader.result c.args.text.now c.new-reader.ensures.start c.new-reader.ensures.text _ c.read_head.new.reader c.in_ok-head.ensures.reads
-    (flaw_of c.in_err-operators.field-0.0) c.in_err-operators.ensures.reads)
+    simp (p.1, p.2) (operators_fail c.new-loader.result.reader c.args.text.now c.new-loader.ensures _ c.read_head.new.loader.reader c.in_ok-head.ensures
+    (flaw_of c.in_err-operators.field-0.0) c.in_err-operators.ensures)
 
 pub returns-in_err-methods : goal.returns-in_err-methods
 returns-in_err-methods c =
     let p = err_from_is_err_and c.from_residual-in_err-methods.result c.from_residual-in_err-methods.ensures.1 in
-    simp (p.1, p.2) (methods_fail c.new-reader.result c.args.text.now c.new-reader.ensures.start c.new-reader.ensures.text _ c.read_head.new.reader c.in_ok-head.ensures.reads
-    _ c.read_operators.new.reader c.in_ok-operators.ensures.reads (flaw_of c.in_err-methods.field-0.0) c.in_err-methods.ensures.reads)
+    simp (p.1, p.2) (methods_fail c.new-loader.result.reader c.args.text.now c.new-loader.ensures _ c.read_head.new.loader.reader c.in_ok-head.ensures
+    _ c.read_operators.new.loader.reader c.in_ok-operators.ensures (flaw_of c.in_err-methods.field-0.0) c.in_err-methods.ensures)
 
 pub returns-in_err-finish : goal.returns-in_err-finish
 returns-in_err-finish c =
     let p = err_from_is_err_and c.from_residual-in_err-finish.result c.from_residual-in_err-finish.ensures.1 in
     let f = c.in_err-finish.ensures in
-    simp (p.1, p.2) (all_read c.new-reader.result c.args.text.now c.new-reader.ensures.start c.new-reader.ensures.text _ c.read_head.new.reader c.in_ok-head.ensures.reads
-    _ c.read_operators.new.reader c.in_ok-operators.ensures.reads _ c.read_methods.new.reader c.in_ok-methods.ensures.reads
-    ∙ goes_on _ c.read_methods.new.reader f.0 ∙ ap (λ (e : Refusal). Err (of_entry e)) (sym f.1))
+    simp (p.1, p.2) (all_read c.new-loader.result.reader c.args.text.now c.new-loader.ensures _ c.read_head.new.loader.reader c.in_ok-head.ensures
+    _ c.read_operators.new.loader.reader c.in_ok-operators.ensures _ c.read_methods.new.loader.reader c.in_ok-methods.ensures
+    ∙ goes_on _ c.read_methods.new.loader.reader f.0 ∙ ap (λ (e : Refusal). Err (of_entry e)) (sym f.1))
 
 pub invariant_of-result : goal.invariant_of-result
 invariant_of-result c =
-    let read = all_read c.new-reader.result c.args.text.now c.new-reader.ensures.start c.new-reader.ensures.text _ c.read_head.new.reader c.in_ok-head.ensures.reads
-    _ c.read_operators.new.reader c.in_ok-operators.ensures.reads _ c.read_methods.new.reader c.in_ok-methods.ensures.reads
-    ∙ ends_there _ c.read_methods.new.reader c.in_ok-finish.ensures in
+    let read = all_read c.new-loader.result.reader c.args.text.now c.new-loader.ensures _ c.read_head.new.loader.reader c.in_ok-head.ensures
+    _ c.read_operators.new.loader.reader c.in_ok-operators.ensures _ c.read_methods.new.loader.reader c.in_ok-methods.ensures
+    ∙ ends_there _ c.read_methods.new.loader.reader c.in_ok-finish.ensures in
     record { legal = (file_back c.args.text.now _ read).0 }
 
 pub returns : goal.returns
 unfolding problem_of
 returns c =
-    all_read c.new-reader.result c.args.text.now c.new-reader.ensures.start c.new-reader.ensures.text _ c.read_head.new.reader c.in_ok-head.ensures.reads
-    _ c.read_operators.new.reader c.in_ok-operators.ensures.reads _ c.read_methods.new.reader c.in_ok-methods.ensures.reads
-    ∙ ends_there _ c.read_methods.new.reader c.in_ok-finish.ensures
+    all_read c.new-loader.result.reader c.args.text.now c.new-loader.ensures _ c.read_head.new.loader.reader c.in_ok-head.ensures
+    _ c.read_operators.new.loader.reader c.in_ok-operators.ensures _ c.read_methods.new.loader.reader c.in_ok-methods.ensures
+    ∙ ends_there _ c.read_methods.new.loader.reader c.in_ok-finish.ensures

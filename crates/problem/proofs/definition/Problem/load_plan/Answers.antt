@@ -14,7 +14,7 @@ returns-in_err-loaded c =
 pub store_rows-requires : goal.store_rows-requires
 store_rows-requires c =
     let few : length (vec_items c.in_ok-loaded.loaded) ≤ length c.args.rows.now = (plan_back (problem_of c.args.self.now) (length c.args.rows.now) c.args.text.now _ c.in_ok-loaded.ensures).1 in
-    let is = ap length c.as_slice.ensures.value in
+    let is = ap length c.deref.ensures.value in
     omega (arith, is)
 
 pub returns : goal.returns
@@ -29,7 +29,7 @@ returns c =
         e,
         n,
         omega arith,
-        c.store_rows.ensures ∙ (λ i. c.as_slice.ensures.value i ++ drop (length (c.as_slice.ensures.value i)) c.args.rows.now) ∙ ap (λ (k : ℕ). vec_items v ++ drop k c.args.rows.now) (sym n),
+        c.store_rows.ensures ∙ (λ i. c.deref.ensures.value i ++ drop (length (c.deref.ensures.value i)) c.args.rows.now) ∙ ap (λ (k : ℕ). vec_items v ++ drop k c.args.rows.now) (sym n),
       );
       exactly = plan_exactly (problem_of c.args.self.now) (length c.args.rows.now) (keeps c.args.self.now) c.args.text.now;
       stops = tt;

@@ -1,39 +1,27 @@
-use Rattle.std.proofs.Common.{◌∙◌}
+use Rattle.std.proofs.Common.{length}
+use Rattle.std.proofs.lemmas.Bool.{leb-true}
+use Rattle.std.proofs.lemmas.Result.{err_from_is_err_and}
 use Rattle.problem.specs.Loaded.{problem_of}
 use Rattle.problem.specs.Plans.{plan_text}
-use Rattle.problem.proofs.Texts.{keeps, operators_are, methods_are}
-use Rattle.problem.proofs.PlanTexts.{row_refused, plan_wrote, plan_short, plan_loads_lem}
+use Rattle.problem.proofs.Texts.{keeps}
+use Rattle.problem.proofs.PlanTexts.{asked_yes, plan_wrote, plan_short, plan_loads_lem}
 use Rattle.problem.proofs.definition.Problem.write_plan.Goals as goal
 
-pub returns-in-Some : goal.returns-in-Some
-returns-in-Some c =
-    let p = c.args.self.now in
-    record {
-      writes = row_refused (problem_of p) c.args.rows.now c.if-rows-gt2000.false c.len.result c.len-2.result (c.len.ensures ∙ methods_are p) (c.len-2.ensures ∙ operators_are p)
-          c.in-Some.row (plan_text (problem_of p) c.args.rows.now) c.args.bytes.now c.in-Some.ensures;
-      within = tt;
-      loads_back = tt;
-    }
-
-pub returns-in-Ok : goal.returns-in-Ok
+pub returns-in_err-count-clause-writes : goal.returns-in_err-count-clause-writes
 unfolding problem_of plan_text
-returns-in-Ok c =
-    let p = c.args.self.now in
-    record {
-      writes = plan_wrote (problem_of p) c.args.rows.now c.if-rows-gt2000.false c.len.result c.len-2.result (c.len.ensures ∙ methods_are p) (c.len-2.ensures ∙ operators_are p)
-          c.in_default.ensures c.args.bytes.now c.write.new.bytes c.in-Ok.count c.in-Ok.ensures;
-      within = c.in-Ok.ensures.1;
-      loads_back = plan_loads_lem (problem_of p) c.args.rows.now c.if-rows-gt2000.false c.len.result c.len-2.result (c.len.ensures ∙ methods_are p) (c.len-2.ensures ∙ operators_are p)
-          c.in_default.ensures (keeps p) c.args.bytes.now c.write.new.bytes c.in-Ok.count c.in-Ok.ensures;
-    }
+returns-in_err-count-clause-writes c =
+    let p = err_from_is_err_and c.from_residual-in_err-count.result c.from_residual-in_err-count.ensures.1 in
+    let few = leb-true (length c.args.rows.now) 2000 (asked_yes _ _ c.in_ok-ask.ensures) in
+    simp (p.1, p.2) (plan_short (problem_of c.args.self.now) c.args.rows.now few c.in_default.ensures c.args.bytes.now c.write.new.bytes c.in_err-count.field-0.0 c.in_err-count.ensures)
 
-pub returns-in-Err : goal.returns-in-Err
+pub returns-clause-writes : goal.returns-clause-writes
 unfolding problem_of plan_text
-returns-in-Err c =
-    let p = c.args.self.now in
-    record {
-      writes = plan_short (problem_of p) c.args.rows.now c.if-rows-gt2000.false c.len.result c.len-2.result (c.len.ensures ∙ methods_are p) (c.len-2.ensures ∙ operators_are p)
-          c.in_default.ensures c.args.bytes.now c.write.new.bytes c.in-Err.question c.in-Err.ensures;
-      within = tt;
-      loads_back = tt;
-    }
+returns-clause-writes c =
+    let few = leb-true (length c.args.rows.now) 2000 (asked_yes _ _ c.in_ok-ask.ensures) in
+    plan_wrote (problem_of c.args.self.now) c.args.rows.now few c.in_default.ensures c.args.bytes.now c.write.new.bytes c.in_ok-count.count c.in_ok-count.ensures
+
+pub returns-clause-loads_back : goal.returns-clause-loads_back
+unfolding problem_of plan_text
+returns-clause-loads_back c =
+    let few = leb-true (length c.args.rows.now) 2000 (asked_yes _ _ c.in_ok-ask.ensures) in
+    plan_loads_lem (problem_of c.args.self.now) c.args.rows.now few c.in_default.ensures (keeps c.args.self.now) c.args.bytes.now c.write.new.bytes c.in_ok-count.count c.in_ok-count.ensures

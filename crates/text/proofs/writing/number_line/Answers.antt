@@ -1,7 +1,0 @@
-use Rattle.std.proofs.Common.{[], ◌∷◌}
-use Rattle.text.proofs.Feeding.{feeds_line}
-use Rattle.text.proofs.writing.number_line.Goals as goal
-
-pub returns : goal.returns
-returns g c =
-    feeds_line g.S.Sink.takes _ _ _ c.args.key.now (c.args.n ∷ []) c.number_entry.ensures c.push.ensures
