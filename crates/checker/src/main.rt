@@ -3,42 +3,24 @@
 
 mod faults;
 mod judging;
+mod report;
+#[cfg(test)]
+mod tests;
 
-use anyhow::{Context, anyhow};
-use faults::CheckFault;
+use anyhow::Context;
 use input::first_bytes_of;
 use judging::judge;
-use problem::{Refusal, RowFault};
+use report::write_answer;
 use std::io::Write;
 use text::written;
-use validate::write_verdict;
-
-// `inspect` prints by the same few lines: no contract can say what is printed, and a call that programs share would need one.
-fn print(rt: &HostRuntime, line: &[u8]) -> anyhow::Result<()> {
-    Ok(rt.stdout().write_all(line)?)
-}
-
-fn print_fault(rt: &HostRuntime, subject: &[u8], refusal: Option<Refusal>) -> anyhow::Result<()> {
-    let refusal = refusal.context("out of memory")?;
-    let mut line = [0u8; 80];
-    let line = written(refusal.write_line(subject, &mut line), &line);
-    print(rt, line.context("the line is too long")?)
-}
-
-fn print_verdict(rt: &HostRuntime, answer: Result<usize, RowFault>) -> anyhow::Result<()> {
-    let mut line = [0u8; 80];
-    let line = written(write_verdict(answer, &mut line), &line);
-    print(rt, line.context("the line is too long")?)
-}
 
 fn main(rt: HostRuntime) -> anyhow::Result<()> {
     let rt = &rt;
     let shop = first_bytes_of(rt, "shop.txt")?;
     let list = first_bytes_of(rt, "list.txt")?;
-    match judge(rt.alloc(), &shop, &list) {
-        Ok(answer) => print_verdict(rt, answer),
-        Err(CheckFault::Shop(fault)) => print_fault(rt, b"shop", fault.refusal()),
-        Err(CheckFault::List(fault)) => print_fault(rt, b"list", fault.refusal()),
-        Err(CheckFault::Memory) => Err(anyhow!("out of memory")),
-    }
+    let answer = judge(rt.alloc(), &shop, &list);
+    let mut line = [0u8; 80];
+    let count = write_answer(answer, &mut line).context("out of memory")?;
+    let line = written(count, &line).context("the line is too long")?;
+    Ok(rt.stdout().write_all(line)?)
 }
