@@ -1,9 +1,10 @@
-// The tree and the walk of the worked plan, which were worked out by hand. That there is an answer, and not a want of memory,
-// no contract says.
+// The tree and the walk of the worked plan, which were worked out by hand, and their refusals. That there is an answer, and not
+// a want of memory, no contract says.
 use crate::tree::write_tree;
 use crate::walk::{Step, Walk};
-use problem::{Problem, Row};
+use problem::{Problem, Row, RowFault};
 use std::test::Fail;
+use validate::Fault;
 
 // As in `cases`, which is a program of its own.
 const SHOP: &[u8] =
@@ -22,12 +23,33 @@ fn worked(rt: &HostRuntime) -> Result<(Problem, [Row; 5]), Fail> {
     Ok((problem, rows))
 }
 
+// The number and the row of a refusal; zeros where there is none.
+fn refusal(answer: Result<(), RowFault>) -> (u8, usize) {
+    answer
+        .err()
+        .map_or((0, 0), |fault| (fault.question.number(), fault.row))
+}
+
 #[test]
 fn tree(rt: HostRuntime) -> Result<(), Fail> {
     let (problem, rows) = worked(&rt)?;
     let mut bytes = [0u8; 100];
     let count = write_tree(rt.alloc(), &problem, &rows, &mut bytes)?;
     assert!(rt; &bytes[0..count] == TREE);
+    Ok(())
+}
+
+// A slice that is a byte too short is refused and not altered.
+#[test]
+fn short_tree(rt: HostRuntime) -> Result<(), Fail> {
+    let (problem, rows) = worked(&rt)?;
+    let mut bytes = [35u8; 68];
+    let refused = match write_tree(rt.alloc(), &problem, &rows, &mut bytes) {
+        Err(Fault::Refused(fault)) => (fault.question.number(), fault.row),
+        _ => (0, 0),
+    };
+    assert_eq!(rt; refused, (22, 0));
+    assert!(rt; bytes.iter().all(|b| *b == 35));
     Ok(())
 }
 
@@ -41,6 +63,22 @@ fn walk(rt: HostRuntime) -> Result<(), Fail> {
         walk.done(&problem, &rows)?;
     }
     assert!(rt; walk.show(&problem, &rows)?.is_none());
+    assert_eq!(rt; refusal(walk.done(&problem, &rows)), (23, 0));
+    Ok(())
+}
+
+// What is refused leaves the walk where it stands.
+#[test]
+fn refused_walk(rt: HostRuntime) -> Result<(), Fail> {
+    let (problem, rows) = worked(&rt)?;
+    let mut walk = Walk::new();
+    walk.done(&problem, &rows)?;
+    let bad = [Row::Do(0), Row::Do(1), Row::By(2)];
+    assert_eq!(rt; refusal(walk.done(&problem, &bad)), (4, 3));
+    let long = vec![in rt.alloc(); Row::Do(0); 2001]?;
+    assert_eq!(rt; refusal(walk.done(&problem, &long)), (21, 0));
+    let step = walk.show(&problem, &rows)?;
+    assert_eq!(rt; step.map(|step| step.shelf), Some(4117));
     Ok(())
 }
 
