@@ -1,5 +1,4 @@
-// What is printed, byte by byte as the library made it. `checker` has the same few lines: no contract can say what is printed,
-// and a call that programs share would need one.
+// What is printed, byte by byte as the library made it.
 use anyhow::Context;
 use problem::Refusal;
 use std::io::Write;

@@ -10,7 +10,7 @@ use views::{Walk, write_tree};
 // No tree text is longer: 2,000 lines of at most 17 bytes, and two lines before them.
 const TREE: usize = 34100;
 
-// The first question that the plan fails as a decomposition. `checker` prints its verdict by the same lines.
+// The first question that the plan fails as a decomposition.
 fn print_failure(rt: &HostRuntime, fault: RowFault) -> anyhow::Result<()> {
     let mut line = [0u8; 80];
     let line = written(write_verdict(Err(fault), &mut line), &line);
