@@ -9,13 +9,14 @@ const SHOP: &[u8] =
 
 #[test]
 fn lines(rt: HostRuntime) -> Result<(), Fail> {
-    let rows: [(&[u8], &[u8], &[u8]); 8] = [
+    let rows: [(&[u8], &[u8], &[u8]); 9] = [
         (SHOP, b"shop=1\nrows=1\ndo=0\n", b"pass=1\n"),
         (SHOP, b"shop=1\nrows=0\n", b"fail=20,0\n"),
         (SHOP, b"shop=1\nrows=2\ndo=0\ndo=0\n", b"fail=16,2\n"),
         (SHOP, b"shop=2\nrows=0\n", b"fault=list,8,1,5\n"),
         (SHOP, b"shop=1\nrows=2001\n", b"fault=list,4,2,12\n"),
         (SHOP, b"shop=1\nrows=1\nby=0\n", b"fault=list,4,3,17\n"),
+        (SHOP, b"shop=1\nrows=1\nxx=0\n", b"fault=list,2,3,14\n"),
         (b"shop=1\nfacts=0\n", b"", b"fault=shop,4,2,13\n"),
         (
             b"shop=1\n",

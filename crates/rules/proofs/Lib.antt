@@ -2,6 +2,7 @@ pub mod Lookup
 pub mod Slicing
 pub mod Steps
 pub mod Starts
+pub mod Effecting
 pub mod Conditions
 pub mod Suiting
 pub mod Textbook

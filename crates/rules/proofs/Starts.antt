@@ -26,13 +26,14 @@ assigned_left v xs ys (k ∷ ns) n e h =
     ∙ assigned_left v (set xs k v) ys ns n (length-set xs k v ∙ e) p.1
 
 -- all are cleared, and then those of the start are set
-pub start_put : (P : ProblemData) → legal P ≡ true → (fs gs hs : List Bool) (ns : List ℕ) → large_enough P fs ≡ true → ns ≡ P.start → gs ≡ replicate P.facts false ++ drop P.facts fs → hs ≡ assigned true gs ns → hs ≡ start_leaves P fs
-start_put P keeps fs gs hs ns large is e h =
-    h ∙ ap₂ (assigned true) e is
-    ∙ assigned_left true (replicate P.facts false) (drop P.facts fs) P.start P.facts (length-replicate P.facts false) (start_below P keeps)
-    ∙ sym (cond-true (large_enough P fs) (started P fs) fs large)
+pub start_is : (P : ProblemData) → legal P ≡ true → (fs gs hs : List Bool) (ns : List ℕ) → ns ≡ P.start → gs ≡ replicate P.facts false ++ drop P.facts fs → hs ≡ assigned true gs ns → hs ≡ started P fs
+start_is P keeps fs gs hs ns is e h =
+    h ∙ ap₂ (assigned true) e is ∙ assigned_left true (replicate P.facts false) (drop P.facts fs) P.start P.facts (length-replicate P.facts false) (start_below P keeps)
 
-start_long : (P : ProblemData) → length (start_facts P) ≡ P.facts
+pub start_put : (P : ProblemData) (fs hs : List Bool) → large_enough P fs ≡ true → hs ≡ started P fs → hs ≡ start_leaves P fs
+start_put P fs hs large e = e ∙ sym (cond-true (large_enough P fs) (started P fs) fs large)
+
+pub start_long : (P : ProblemData) → length (start_facts P) ≡ P.facts
 start_long P = assigned_long true P.start (replicate P.facts false) ∙ length-replicate P.facts false
 
 pub started_take : (P : ProblemData) (fs gs : List Bool) → gs ≡ started P fs → take P.facts gs ≡ start_facts P

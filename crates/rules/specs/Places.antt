@@ -1,10 +1,10 @@
 -- Where rows have led, and what one row more does there. Assumes nothing.
-use Rattle.std.specs.Prelude.{ℕ, ◌+◌, Bool, true, false, ◌||◌, List, [], ◌∷◌, ◌++◌, drop, replicate, nat_lt}
+use Rattle.std.specs.Prelude.{◌≡◌, ℕ, ◌+◌, Bool, true, false, ◌||◌, List, [], ◌∷◌, ◌++◌, drop, replicate, nat_lt}
 use Rattle.problem.specs.Data.{ProblemData}
 use Rattle.problem.specs.declared.entries.Row.{Row}
 use Rattle.problem.specs.declared.entries.Row.TheVariants.{By, Do}
 use Rattle.rules.specs.declared.entries.OpenTask.{OpenTask}
-use Rattle.rules.specs.Effects.{conditions, assigned, changed}
+use Rattle.rules.specs.Effects.{conditions, assigned, changed, Changes}
 use Rattle.rules.specs.Tasks.{operator_at, method_at, sub_of}
 
 -- the facts, and the open tasks
@@ -55,6 +55,11 @@ level_right P L r t = fits_level (sub_of P r) t.level L
 abbrev pub worked : ProblemData → Row → List Bool → List Bool
 worked P (Do o) s = performed P o s
 worked P (By m) s = s
+
+-- in the subject's words: an operator changes what its `del` and `add` say, and a method no fact
+abbrev pub Works : ProblemData → Row → List Bool → List Bool → Type 0
+Works P (Do o) s t = Changes s (operator_at P o).del (operator_at P o).add t
+Works P (By m) s t = t ≡ s
 
 -- what a row does to a place, whether or not it fits
 abbrev pub after_on : ProblemData → Row → List Bool → List OpenTask → Place

@@ -1,9 +1,9 @@
 // Conditions, effects and the start, over any state.
-ghost use Rattle.std.specs.Prelude.{◌≡◌, ◌≤◌, false, ◌++◌, length, drop, replicate};
+ghost use Rattle.std.specs.Prelude.{◌≡◌, ◌≤◌, false, ◌++◌, length, drop, replicate, IfOk};
 ghost use Rattle.problem.specs.Loaded.{problem_of};
 ghost use Rattle.rules.specs.Effects.{holds, conditions, assigned, changed};
-ghost use Rattle.rules.specs.Places.{worked};
-ghost use Rattle.rules.specs.Starting.{start_answer, start_leaves};
+ghost use Rattle.rules.specs.Places.{worked, Works};
+ghost use Rattle.rules.specs.Starting.{start_answer, start_leaves, Starts};
 
 use crate::numbered::operator_at;
 use base::{Question, ask};
@@ -53,7 +53,8 @@ fn apply<S: State>(state: &mut S, operator: &Operator)
 
 // Does the row's work on the state: that of its operator, and nothing where it splits a task.
 pub fn perform<S: State>(problem: &Problem, row: Row, state: &mut S)
-    ensures { S.facts state.new ≡ worked (problem_of problem.now) row (S.facts state.old) }
+    ensures after { S.facts state.new ≡ worked (problem_of problem.now) row (S.facts state.old) }
+    ensures means { Works (problem_of problem.now) row (S.facts state.old) (S.facts state.new) }
 {
     match row {
         Row::By(_) => {}
@@ -82,6 +83,7 @@ fn clear<S: State>(state: &mut S, count: u16)
 pub fn put_start<S: State>(problem: &Problem, state: &mut S) -> Result<(), Question>
     ensures after { S.facts state.new ≡ start_leaves (problem_of problem.now) (S.facts state.old) }
     ensures value { result ≡ start_answer (problem_of problem.now) (S.facts state.old) }
+    ensures means { IfOk result (λ _. Starts (problem_of problem.now) (S.facts state.old) (S.facts state.new)) }
 {
     ask(problem.facts <= state.size(), Question::StateLargeEnough)?;
     clear(state, problem.facts);

@@ -11,11 +11,12 @@ use Rattle.validate.specs.declared.faults.Fault.{Fault}
 use Rattle.validate.specs.declared.faults.Fault.TheVariants.{Refused, Memory}
 use Rattle.validate.specs.Verdicts.{opening, asked}
 
--- the number of rows where every question is answered yes, or the first answered no; want of memory tells nothing of them
-abbrev pub Answers : List (Asked RowFault) → ℕ → Result ℕ Fault → Type 0
-Answers questions count (Ok n) = (first_no questions ≡ Ok tt) × (n ≡ count)
-Answers questions count (Err (Refused f)) = first_no questions ≡ Err f
-Answers questions count (Err Memory) = Unit {0}
+-- the number of rows where every question is answered yes, or the first answered no; memory is wanting only where those that are asked
+-- before it is taken are all answered yes
+abbrev pub Answers : List (Asked RowFault) → List (Asked RowFault) → ℕ → Result ℕ Fault → Type 0
+Answers before questions count (Ok n) = (first_no questions ≡ Ok tt) × (n ≡ count)
+Answers before questions count (Err (Refused f)) = first_no questions ≡ Err f
+Answers before questions count (Err Memory) = first_no before ≡ Ok tt
 
 -- the facts that validation leaves: the start facts once question 4 is passed, those beyond the problem's as they came
 abbrev pub left_facts : ProblemData → Limits → List Row → List Bool → List Bool

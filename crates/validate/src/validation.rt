@@ -1,7 +1,7 @@
 // Whether a plan is a solution of a problem.
 ghost use Rattle.std.specs.Prelude.{length};
 ghost use Rattle.problem.specs.Loaded.{problem_of};
-ghost use Rattle.validate.specs.Verdicts.{asked};
+ghost use Rattle.validate.specs.Verdicts.{opening, asked};
 ghost use Rattle.validate.specs.Judged.{Answers, Leaves, Validates};
 
 use crate::faults::Fault;
@@ -23,7 +23,7 @@ pub fn validate<S: State>(
     limits: Limits,
     state: &mut S,
 ) -> Result<usize, Fault>
-    ensures answer { Answers (asked (problem_of problem.now) limits (length (S.facts state.old)) rows.now) (length rows.now) result }
+    ensures answer { Answers (opening (problem_of problem.now) limits (length (S.facts state.old)) rows.now) (asked (problem_of problem.now) limits (length (S.facts state.old)) rows.now) (length rows.now) result }
     ensures leaves { Leaves (problem_of problem.now) limits rows.now (S.facts state.old) result (S.facts state.new) }
     ensures exactly { Validates (problem_of problem.now) limits (length (S.facts state.old)) rows.now }
 {

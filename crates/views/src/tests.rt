@@ -39,17 +39,19 @@ fn tree(rt: HostRuntime) -> Result<(), Fail> {
     Ok(())
 }
 
-// A slice that is a byte too short is refused and not altered.
+// A slice that is a byte too short is refused and not altered; whether the text fits is asked last.
 #[test]
 fn short_tree(rt: HostRuntime) -> Result<(), Fail> {
     let (problem, rows) = worked(&rt)?;
     let mut bytes = [35u8; 68];
-    let refused = match write_tree(rt.alloc(), &problem, &rows, &mut bytes) {
-        Err(Fault::Refused(fault)) => (fault.question.number(), fault.row),
-        _ => (0, 0),
-    };
-    assert_eq!(rt; refused, (22, 0));
-    assert!(rt; bytes.iter().all(|b| *b == 35));
+    for (rows, refused) in [(&rows[..], (22, 0)), (&rows[1..], (17, 1))] {
+        let answer = match write_tree(rt.alloc(), &problem, rows, &mut bytes) {
+            Err(Fault::Refused(fault)) => (fault.question.number(), fault.row),
+            _ => (0, 0),
+        };
+        assert_eq!(rt; answer, refused);
+        assert!(rt; bytes.iter().all(|b| *b == 35));
+    }
     Ok(())
 }
 
@@ -75,7 +77,7 @@ fn refused_walk(rt: HostRuntime) -> Result<(), Fail> {
     walk.done(&problem, &rows)?;
     let bad = [Row::Do(0), Row::Do(1), Row::By(2)];
     assert_eq!(rt; refusal(walk.done(&problem, &bad)), (4, 3));
-    let long = vec![in rt.alloc(); Row::Do(0); 2001]?;
+    let long = vec![in rt.alloc(); Row::By(2); 2001]?;
     assert_eq!(rt; refusal(walk.done(&problem, &long)), (21, 0));
     let step = walk.show(&problem, &rows)?;
     assert_eq!(rt; step.map(|step| step.shelf), Some(4117));

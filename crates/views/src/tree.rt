@@ -2,6 +2,7 @@
 ghost use Rattle.std.specs.Prelude.{◌≡◌, ◌+◌, ◌≤◌, List, ◌∷◌, ◌++◌, length, IfOk, OnOk};
 ghost use Rattle.problem.specs.Loaded.{problem_of};
 ghost use Rattle.validate.specs.Judged.{Answers};
+ghost use Rattle.validate.specs.Verdicts.{plan_asked};
 ghost use Rattle.views.specs.Lines.{nodes_at, tree_lines};
 ghost use Rattle.views.specs.Listers.{rows_left, listed};
 ghost use Rattle.views.specs.Trees.{node_text, tree_text, tree_asked, Leaves, Tree};
@@ -85,7 +86,7 @@ pub fn write_tree(
     rows: &[Row],
     bytes: &mut [u8],
 ) -> Result<usize, Fault>
-    ensures answers { Answers (tree_asked (problem_of problem.now) rows.now (length bytes.old)) (length (tree_text (problem_of problem.now) rows.now)) result }
+    ensures answers { Answers (plan_asked (problem_of problem.now) rows.now) (tree_asked (problem_of problem.now) rows.now (length bytes.old)) (length (tree_text (problem_of problem.now) rows.now)) result }
     ensures leaves { Leaves (tree_text (problem_of problem.now) rows.now) bytes.old result bytes.new }
     ensures within { IfOk result (λ n. n ≤ length bytes.old) }
     ensures tree { OnOk result (Tree (problem_of problem.now) rows.now (tree_text (problem_of problem.now) rows.now)) }

@@ -1,7 +1,7 @@
 use Rattle.std.proofs.Common.{length, Err, sym, refl, ap, ◌∙◌, subst}
 use Rattle.std.proofs.lemmas.Result.{err_from_is_err_and}
 use Rattle.problem.specs.Loaded.{problem_of}
-use Rattle.validate.specs.Verdicts.{asked}
+use Rattle.validate.specs.Verdicts.{opening, asked}
 use Rattle.validate.specs.Judged.{Answers, Leaves}
 use Rattle.validate.proofs.Leaving.{numbers_no, rows_decide, rows_leave}
 use Rattle.validate.proofs.validation.validate.Goals as goal
@@ -13,7 +13,7 @@ returns-in_err-check_numbers-clause-answer g c =
     let fs = g.S.State.facts c.args.state.now in
     let rows = c.args.rows.now in
     let p = err_from_is_err_and c.from_residual-in_err-check_numbers.result c.from_residual-in_err-check_numbers.ensures.1 in
-    subst (Answers (asked P c.args.limits (length fs) rows) (length rows)) (sym (p.1 ∙ ap Err p.2))
+    subst (Answers (opening P c.args.limits (length fs) rows) (asked P c.args.limits (length fs) rows) (length rows)) (sym (p.1 ∙ ap Err p.2))
     (numbers_no P c.args.limits rows fs c.size.result c.size.ensures c.in_ok-check_limits.ensures _ c.in_err-check_numbers.ensures)
 
 pub returns-in_err-answer-clause-answer : goal.returns-in_err-answer-clause-answer
@@ -23,7 +23,7 @@ returns-in_err-answer-clause-answer g c =
     let fs = g.S.State.facts c.args.state.now in
     let rows = c.args.rows.now in
     let p = err_from_is_err_and c.from_residual-in_err-answer.result c.from_residual-in_err-answer.ensures.1 in
-    subst (Answers (asked P c.args.limits (length fs) rows) (length rows)) (sym (p.1 ∙ ap Err p.2))
+    subst (Answers (opening P c.args.limits (length fs) rows) (asked P c.args.limits (length fs) rows) (length rows)) (sym (p.1 ∙ ap Err p.2))
     (rows_decide P c.args.limits rows fs c.size.result c.size.ensures c.in_ok-check_limits.ensures c.in_ok-check_numbers.ensures _ c.put_start.ensures.after _ c.in_ok-todo.ensures.1 _ c.in_err-answer.ensures.answer)
 
 pub returns-in_err-answer-clause-leaves : goal.returns-in_err-answer-clause-leaves

@@ -3,9 +3,10 @@ use Rattle.std.proofs.lemmas.Result.{err_from_is_err_and}
 use Rattle.text.specs.Rendered.{Written}
 use Rattle.problem.specs.Loaded.{problem_of}
 use Rattle.validate.specs.Judged.{Answers}
+use Rattle.validate.specs.Verdicts.{plan_asked}
 use Rattle.views.specs.Trees.{tree_text, tree_asked}
 use Rattle.views.proofs.Drawing.{tree_of}
-use Rattle.views.proofs.Written.{text_of, tree_no, Told, tree_answers, tree_leaves}
+use Rattle.views.proofs.Written.{text_of, plan_yes, tree_no, Told, tree_answers, tree_leaves}
 use Rattle.views.proofs.tree.write_tree.Goals as goal
 
 pub returns-in_err-check_decomposition-clause-answers : goal.returns-in_err-check_decomposition-clause-answers
@@ -14,7 +15,15 @@ returns-in_err-check_decomposition-clause-answers c =
     let rows = c.args.rows.now in
     let size = length c.args.bytes.now in
     let p = err_from_is_err_and c.from_residual.result c.from_residual.ensures.1 in
-    subst (Answers (tree_asked P rows size) (length (tree_text P rows))) (sym (p.1 ∙ ap Err p.2)) (tree_no P rows size c.in_err-check_decomposition.field-0.0 c.in_err-check_decomposition.ensures)
+    subst (Answers (plan_asked P rows) (tree_asked P rows size) (length (tree_text P rows))) (sym (p.1 ∙ ap Err p.2)) (tree_no P rows size c.in_err-check_decomposition.field-0.0 c.in_err-check_decomposition.ensures)
+
+pub returns-in_err-nodes-clause-answers : goal.returns-in_err-nodes-clause-answers
+returns-in_err-nodes-clause-answers c =
+    let P = problem_of c.args.problem.now in
+    let rows = c.args.rows.now in
+    let size = length c.args.bytes.now in
+    let p = err_from_is_err_and c.from_residual-in_err-nodes.result c.from_residual-in_err-nodes.ensures.1 in
+    subst (Answers (plan_asked P rows) (tree_asked P rows size) (length (tree_text P rows))) (sym (p.1 ∙ ap Err p.2)) (plan_yes P rows c.in_ok-check_decomposition.ensures.0)
 
 pub returns : goal.returns
 returns c =

@@ -39,8 +39,8 @@ returns-clause-leads g c =
     let top : tasks_of c.args.todo.now ≡ c.in_ok-task.task ∷ ts = search rules in
     let opened : tasks_of c.put.new.self ≡ at_level c.saturating_add.result c.subtasks.result.now ++ ts = search rules in
     let level = row_level P it.conditions it.levels c.args.number 0 c.args.row fs _ _ _ top _ c.in_ok-ask_row.ensures.byte (sym c.in_ok-ask_row.ensures.answer) c.saturating_add.ensures in
-    row_leads P it.conditions it.levels c.args.number 0 c.args.row fs _ _ _ top _ _ c.perform.ensures (opened ∙ ap (λ sub. at_level c.saturating_add.result sub ++ ts) c.subtasks.ensures ∙ level)
+    row_leads P it.conditions it.levels c.args.number 0 c.args.row fs _ _ _ top _ _ c.perform.ensures.after (opened ∙ ap (λ sub. at_level c.saturating_add.result sub ++ ts) c.subtasks.ensures ∙ level)
 
 pub returns-clause-kept : goal.returns-clause-kept
 returns-clause-kept g c =
-    kept_worked (problem_of c.args.self.now.problem.now) c.args.row (g.S.State.facts c.args.state.now) _ (keeps c.args.self.now.problem.now) c.perform.ensures
+    kept_worked (problem_of c.args.self.now.problem.now) c.args.row (g.S.State.facts c.args.state.now) _ (keeps c.args.self.now.problem.now) c.perform.ensures.after
