@@ -1,5 +1,5 @@
 -- What validation has answered, and leaves on the state. Assumes nothing.
-use Rattle.std.proofs.Common.{◌≡◌, ℕ, ◌≤◌, Bool, true, List, ◌++◌, length, take, is_ok, Ok, Err, Result, sym, ap, ap₂, ◌∙◌, arith}
+use Rattle.std.proofs.Common.{◌≡◌, ℕ, ◌≤◌, Bool, true, List, ◌++◌, length, Ok, Err, Result, sym, ap, ◌∙◌, arith}
 use Rattle.std.proofs.lemmas.Bool.{cond-true, leb-true, le-leb}
 use Rattle.base.specs.Asked.{first_no}
 use Rattle.base.proofs.Asking.{append_ok, append_no, yes_all}
@@ -9,16 +9,15 @@ use Rattle.problem.specs.declared.faults.RowFault.{RowFault}
 use Rattle.rules.specs.declared.entries.Limits.{Limits}
 use Rattle.rules.specs.Places.{start_facts, started}
 use Rattle.rules.specs.Starting.{large_enough, start_leaves}
-use Rattle.rules.proofs.Starts.{started_take, started_drop, started_long}
-use Rattle.validate.specs.Verdicts.{limits_asked, numbers_asked, following_from, following, opening, asked}
-use Rattle.validate.specs.Judged.{left_facts}
+use Rattle.rules.proofs.Starts.{started_drop, started_long}
+use Rattle.validate.specs.Verdicts.{limits_asked, numbers_asked, following, opening, asked}
 use Rattle.validate.specs.Stacks.{Kept}
 
 put_is : (P : ProblemData) (fs gs : List Bool) → P.facts ≤ length fs → gs ≡ start_leaves P fs → gs ≡ started P fs
 put_is P fs gs h e = e ∙ cond-true (large_enough P fs) (started P fs) fs (le-leb P.facts (length fs) h)
 
 -- the start, rows, and the start again
-put_again : (P : ProblemData) (fs gs hs ks : List Bool) → P.facts ≤ length fs → gs ≡ start_leaves P fs → Kept P gs hs → ks ≡ start_leaves P hs → ks ≡ started P fs
+pub put_again : (P : ProblemData) (fs gs hs ks : List Bool) → P.facts ≤ length fs → gs ≡ start_leaves P fs → Kept P gs hs → ks ≡ start_leaves P hs → ks ≡ started P fs
 put_again P fs gs hs ks h a k b =
     let g = put_is P fs gs h a in
     let long : P.facts ≤ length hs = omega (arith, k.size, ap length g, started_long P fs) in
@@ -40,13 +39,7 @@ module _ (P : ProblemData) (lim : Limits) (rows : List Row) (fs : List Bool) (si
   numbers_no f e = append_no (opening P lim (length fs) rows) (following P true lim.levels rows) f (numbers_decide ∙ sym e)
 
   -- the numbers are passed too, and the rows were looked at from the start facts
-  pub rows_decide : Ok tt ≡ first_no (numbers_asked P 1 rows) → (gs : List Bool) → gs ≡ start_leaves P fs → (left : List Row) → left ≡ rows → (r : Result (Unit {0}) RowFault)
-      → r ≡ first_no (following_from P true lim.levels left (take P.facts gs)) → first_no (asked P lim (length fs) rows) ≡ r
-  rows_decide n gs put left all r e =
+  pub rows_decide : Ok tt ≡ first_no (numbers_asked P 1 rows) → (left : List Row) → left ≡ rows → (r : Result (Unit {0}) RowFault) → r ≡ first_no (following P true lim.levels left) → first_no (asked P lim (length fs) rows) ≡ r
+  rows_decide n left all r e =
       append_ok (opening P lim (length fs) rows) (following P true lim.levels rows) (numbers_decide ∙ sym n)
-      ∙ sym (e ∙ ap₂ (λ xs s. first_no (following_from P true lim.levels xs s)) all (started_take P fs gs (put_is P fs gs large put)))
-
-  pub rows_leave : Ok tt ≡ first_no (numbers_asked P 1 rows) → (gs hs ks : List Bool) → gs ≡ start_leaves P fs → Kept P gs hs → ks ≡ start_leaves P hs → ks ≡ left_facts P lim rows fs
-  rows_leave n gs hs ks put kept again =
-      put_again P fs gs hs ks large put kept again
-      ∙ sym (cond-true (is_ok (first_no (opening P lim (length fs) rows))) (started P fs) fs (ap is_ok (numbers_decide ∙ sym n)))
+      ∙ sym (e ∙ ap (λ xs. first_no (following P true lim.levels xs)) all)

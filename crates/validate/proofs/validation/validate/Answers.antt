@@ -2,8 +2,8 @@ use Rattle.std.proofs.Common.{length, Err, sym, refl, ap, ◌∙◌, subst}
 use Rattle.std.proofs.lemmas.Result.{err_from_is_err_and}
 use Rattle.problem.specs.Loaded.{problem_of}
 use Rattle.validate.specs.Verdicts.{opening, asked}
-use Rattle.validate.specs.Judged.{Answers, Leaves}
-use Rattle.validate.proofs.Leaving.{numbers_no, rows_decide, rows_leave}
+use Rattle.validate.specs.Judged.{Answers}
+use Rattle.validate.proofs.Leaving.{numbers_no, rows_decide}
 use Rattle.validate.proofs.validation.validate.Goals as goal
 
 pub returns-in_err-check_numbers-clause-answer : goal.returns-in_err-check_numbers-clause-answer
@@ -16,36 +16,19 @@ returns-in_err-check_numbers-clause-answer g c =
     subst (Answers (opening P c.args.limits (length fs) rows) (asked P c.args.limits (length fs) rows) (length rows)) (sym (p.1 ∙ ap Err p.2))
     (numbers_no P c.args.limits rows fs c.size.result c.size.ensures c.in_ok-check_limits.ensures _ c.in_err-check_numbers.ensures)
 
-pub returns-in_err-answer-clause-answer : goal.returns-in_err-answer-clause-answer
+pub returns-in_err-check_from_start-clause-answer : goal.returns-in_err-check_from_start-clause-answer
 unfolding problem_of
-returns-in_err-answer-clause-answer g c =
+returns-in_err-check_from_start-clause-answer g c =
     let P = problem_of c.args.problem.now in
     let fs = g.S.State.facts c.args.state.now in
     let rows = c.args.rows.now in
-    let p = err_from_is_err_and c.from_residual-in_err-answer.result c.from_residual-in_err-answer.ensures.1 in
+    let p = err_from_is_err_and c.from_residual-in_err-check_from_start.result c.from_residual-in_err-check_from_start.ensures.1 in
     subst (Answers (opening P c.args.limits (length fs) rows) (asked P c.args.limits (length fs) rows) (length rows)) (sym (p.1 ∙ ap Err p.2))
-    (rows_decide P c.args.limits rows fs c.size.result c.size.ensures c.in_ok-check_limits.ensures c.in_ok-check_numbers.ensures _ c.put_start.ensures.after _ c.in_ok-todo.ensures.1 _ c.in_err-answer.ensures.answer)
-
-pub returns-in_err-answer-clause-leaves : goal.returns-in_err-answer-clause-leaves
-unfolding problem_of
-returns-in_err-answer-clause-leaves g c =
-    let P = problem_of c.args.problem.now in
-    let fs = g.S.State.facts c.args.state.now in
-    let rows = c.args.rows.now in
-    let p = err_from_is_err_and c.from_residual-in_err-answer.result c.from_residual-in_err-answer.ensures.1 in
-    subst (λ r. Leaves P c.args.limits rows fs r (g.S.State.facts c.put_start-2.new.state)) (sym (p.1 ∙ ap Err p.2))
-    (rows_leave P c.args.limits rows fs c.size.result c.size.ensures c.in_ok-check_limits.ensures c.in_ok-check_numbers.ensures _ _ _ c.put_start.ensures.after c.check_rows-answer.ensures.kept c.put_start-2.ensures.after)
+    (rows_decide P c.args.limits rows fs c.size.result c.size.ensures c.in_ok-check_limits.ensures c.in_ok-check_numbers.ensures _ c.in_ok-todo.ensures.1 _ c.in_err-check_from_start.ensures.answer)
 
 pub returns-clause-answer : goal.returns-clause-answer
 unfolding problem_of
 returns-clause-answer g c =
     let P = problem_of c.args.problem.now in
     let fs = g.S.State.facts c.args.state.now in
-    (rows_decide P c.args.limits c.args.rows.now fs c.size.result c.size.ensures c.in_ok-check_limits.ensures c.in_ok-check_numbers.ensures _ c.put_start.ensures.after _ c.in_ok-todo.ensures.1 _ c.in_ok-answer.ensures.answer, refl)
-
-pub returns-clause-leaves : goal.returns-clause-leaves
-unfolding problem_of
-returns-clause-leaves g c =
-    let P = problem_of c.args.problem.now in
-    let fs = g.S.State.facts c.args.state.now in
-    rows_leave P c.args.limits c.args.rows.now fs c.size.result c.size.ensures c.in_ok-check_limits.ensures c.in_ok-check_numbers.ensures _ _ _ c.put_start.ensures.after c.check_rows-answer.ensures.kept c.put_start-2.ensures.after
+    (rows_decide P c.args.limits c.args.rows.now fs c.size.result c.size.ensures c.in_ok-check_limits.ensures c.in_ok-check_numbers.ensures _ c.in_ok-todo.ensures.1 _ c.in_ok-check_from_start.ensures.answer, refl)
