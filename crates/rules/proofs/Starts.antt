@@ -1,7 +1,7 @@
 -- The start facts on a state. Assumes nothing.
-use Rattle.std.proofs.Common.{◌≡◌, ℕ, ◌+◌, ◌<◌, Bool, true, false, ltb, List, [], ◌∷◌, ◌++◌, length, get_or, take, drop, set, replicate, sym, refl, ap, ◌∙◌, ap₂, append_assoc, arith, length-append, length-set}
+use Rattle.std.proofs.Common.{◌≡◌, ℕ, ◌+◌, ◌<◌, Bool, true, false, ltb, List, [], ◌∷◌, ◌++◌, length, get_or, drop, set, replicate, sym, refl, ap, ◌∙◌, ap₂, append_assoc, arith, length-append, length-set}
 use Rattle.std.proofs.lemmas.Bool.{and_parts, ltb-true, cond-true}
-use Rattle.std.proofs.lemmas.List.{drop_more, set_at, replicate_more, length-replicate, set-append_left, take_at, drop_at}
+use Rattle.std.proofs.lemmas.List.{drop_more, set_at, replicate_more, length-replicate, set-append_left, drop_at}
 use Rattle.problem.specs.Data.{ProblemData}
 use Rattle.problem.specs.Legal.{legal, every}
 use Rattle.rules.specs.Effects.{assigned}
@@ -35,9 +35,6 @@ start_put P fs hs large e = e ∙ sym (cond-true (large_enough P fs) (started P 
 
 pub start_long : (P : ProblemData) → length (start_facts P) ≡ P.facts
 start_long P = assigned_long true P.start (replicate P.facts false) ∙ length-replicate P.facts false
-
-pub started_take : (P : ProblemData) (fs gs : List Bool) → gs ≡ started P fs → take P.facts gs ≡ start_facts P
-started_take P fs gs e = ap (take P.facts) e ∙ take_at (start_facts P) (drop P.facts fs) P.facts (start_long P)
 
 pub started_drop : (P : ProblemData) (fs gs : List Bool) → gs ≡ started P fs → drop P.facts gs ≡ drop P.facts fs
 started_drop P fs gs e = ap (drop P.facts) e ∙ drop_at (start_facts P) (drop P.facts fs) P.facts (start_long P)
