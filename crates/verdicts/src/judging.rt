@@ -44,7 +44,7 @@ pub fn print_tree(rt: &HostRuntime, problem: &Problem, rows: &[Row]) -> anyhow::
     Ok(())
 }
 
-// How many stops the walk has.
+// How many stops the walk has: at most as many as there are rows, after which it shows nothing more.
 fn stops(problem: &Problem, rows: &[Row]) -> Result<usize, RowFault> {
     let mut walk = Walk::new();
     for stops in 0..rows.len() {
@@ -53,7 +53,8 @@ fn stops(problem: &Problem, rows: &[Row]) -> Result<usize, RowFault> {
         }
         walk.done(problem, rows)?;
     }
-    Ok(rows.len())
+    let more = walk.show(problem, rows)?.is_some();
+    Ok(rows.len().saturating_add(usize::from(more)))
 }
 
 pub fn print_walk(rt: &HostRuntime, problem: &Problem, rows: &[Row]) -> anyhow::Result<()> {
